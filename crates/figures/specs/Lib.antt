@@ -1,0 +1,2 @@
+pub mod RttFigures
+pub mod Table

@@ -1,0 +1,2 @@
+// The round-trip time estimator of a path.
+pub mod estimator;
