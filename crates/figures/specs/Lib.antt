@@ -1,2 +1,3 @@
 pub mod RttFigures
 pub mod Table
+pub mod Computed

@@ -1,5 +1,7 @@
--- The table of worked figures, each worked out by hand. Assumes nothing.
+-- The table of worked figures, each worked out by hand, as facts about the definitions. Assumes nothing.
+use Rattle.numbers.specs.Figures.{Figures}
 use Rattle.figures.specs.RttFigures.{RttTable}
 
 pub record Table : Type 0 where
   pub rtt : RttTable
+  pub numbers : Figures

@@ -1,2 +1,3 @@
-// The worked figures: the library's answers where they were worked out by hand.
+// The worked figures: what the library answers where the answers were worked out by hand.
 pub mod rtt_figures;
+pub mod table;

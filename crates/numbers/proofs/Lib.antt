@@ -1,0 +1,9 @@
+pub mod Closest
+pub mod Rounding
+pub mod Leading
+pub mod Ties
+pub mod Bounds
+pub mod Parts
+pub mod Cubes
+pub mod Scaled
+pub mod Worked

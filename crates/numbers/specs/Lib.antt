@@ -1,0 +1,5 @@
+pub mod Nearest
+pub mod Whole
+pub mod Seconds
+pub mod Root
+pub mod Figures
