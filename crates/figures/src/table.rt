@@ -2,6 +2,8 @@
 ghost use Rattle.std.specs.Results.{Cases};
 ghost use Rattle.figures.specs.Computed.{Computed};
 ghost use Rattle.figures.specs.Table.{Table};
+use crate::filter_figures::choices_after;
+use crate::pacer_figures::told_after;
 use crate::rtt_figures::Smoothing;
 use crate::rtt_figures::after_two_samples;
 use numbers::figures::Worked;
@@ -16,6 +18,11 @@ pub struct WorkedFigures {
     pub delay_41: Smoothing,
     // Casts and cube roots.
     pub numbers: Worked,
+    // The filter that took 5 in round 1, after 3 in round 11 and in round 12.
+    pub round_11: (u64, u64, u64),
+    pub round_12: (u64, u64, u64),
+    // What the eleventh of a burst of datagrams is told.
+    pub eleventh: Option<u64>,
 }
 
 // Every worked figure, computed. The table holds of the definitions, and the code gives its numbers.
@@ -28,5 +35,8 @@ pub fn worked_figures() -> Result<WorkedFigures, Refusal>
         delay_40: after_two_samples(40_000_000)?,
         delay_41: after_two_samples(41_000_000)?,
         numbers: compute(),
+        round_11: choices_after(11),
+        round_12: choices_after(12),
+        eleventh: told_after(10)?,
     })
 }

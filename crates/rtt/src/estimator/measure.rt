@@ -58,6 +58,13 @@ impl RttEstimator {
         self.var
     }
 
+    // The latest sample, the smoothed time, the variation and the least sample.
+    pub fn parts(&self) -> (u64, Option<u64>, u64, u64)
+        ensures { λ r. ⌜ r ≡ (now (self .entry) .latest, now (self .entry) .smoothed, now (self .entry) .var, now (self .entry) .min) ⌝ }
+    {
+        (self.latest, self.smoothed, self.var, self.min)
+    }
+
     // The base of the probe timeout, to which the peer's longest ack delay is added.
     pub fn pto_base(&self) -> u64
         ensures { λ r. ⌜ r ≡ probeTimeout (estimate-of (now (self .entry))) ⌝ }

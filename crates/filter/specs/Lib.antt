@@ -1,0 +1,2 @@
+pub mod RttOrder
+pub mod Filter

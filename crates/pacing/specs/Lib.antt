@@ -1,0 +1,2 @@
+pub mod Pacing
+pub mod Laws

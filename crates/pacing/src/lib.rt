@@ -1,0 +1,2 @@
+// Pacing of transmissions.
+pub mod pacer;

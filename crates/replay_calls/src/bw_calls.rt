@@ -1,0 +1,55 @@
+// Calls of the bandwidth estimation.
+use crate::call::Call;
+use crate::call::OrNone;
+use crate::call::OrNoneDisplay;
+use crate::min_max_calls::FilterDisplay;
+use crate::min_max_calls::FilterState;
+use bandwidth::bw_estimation::BandwidthEstimation;
+use bandwidth::bw_estimation::RunningTotal;
+use bandwidth::bw_estimation::bw_from_delta;
+use std::error::AnyError;
+use std::fmt;
+
+// The answer, where the call has one.
+pub(crate) fn perform(
+    estimation: &mut BandwidthEstimation,
+    call: &Call,
+) -> Result<Option<OrNone>, AnyError> {
+    let [a, b, c, d, e, _] = call.args;
+    match call.name {
+        "on_sent" => estimation.on_sent(a, b),
+        "on_ack" => estimation.on_ack(a, c, d, e == 1),
+        "end_acks" => estimation.end_acks(),
+        "bw_from_delta" => return Ok(Some(OrNone(bw_from_delta(a, b)))),
+        _ => return Err("no call of a bandwidth estimation".into()),
+    }
+    Ok(None)
+}
+
+#[derive(Clone, Copy)]
+struct TotalState(RunningTotal);
+
+impl fmt::Display for TotalState as TotalDisplay {
+    fn fmt<W: fmt::Write>(&self, f: &mut fmt::Formatter<W>) -> fmt::Result {
+        let (bytes, prev_bytes, time, prev_time) = self.0.parts();
+        let time = OrNone(time);
+        let prev_time = OrNone(prev_time);
+        write!(f, "{bytes} {prev_bytes} {time} {prev_time}")
+    }
+}
+
+#[derive(Clone, Copy)]
+pub(crate) struct BandwidthState<'a>(pub(crate) &'a BandwidthEstimation);
+
+pub(crate) impl fmt::Display for BandwidthState<'_> as BandwidthDisplay {
+    fn fmt<W: fmt::Write>(&self, f: &mut fmt::Formatter<W>) -> fmt::Result {
+        let (acked, sent, max_filter, at_last_window) = self.0.parts();
+        let acked = TotalState(acked);
+        let sent = TotalState(sent);
+        let filter = FilterState(&max_filter);
+        write!(f, "{acked} {sent} {filter} ")?;
+        let this_window = self.0.bytes_acked_this_window();
+        let estimate = self.0.get_estimate();
+        write!(f, "{at_last_window} {this_window} {estimate}")
+    }
+}
