@@ -2,6 +2,7 @@
 //! what they answer.
 
 mod clock;
+mod cube_root;
 mod lists;
 mod random;
 mod recorder;
@@ -17,15 +18,16 @@ use std::path::Path;
 use std::process::ExitCode;
 use std::{env, fs};
 
-use lists::{Listed, bw, min_max, pacer, rtt};
+use lists::{List, bbr, bw, cubic, min_max, new_reno, pacer, rtt};
 use random::Xorshift;
 use recorder::{Failure, Recorder, Session};
 use subject::{Call, Subject};
 
 const USAGE: &str = "usage: oracle record MODULE FOLDER | oracle answer MODULE | oracle sources
-MODULE: rtt, min_max, bw, pacer";
+MODULE: rtt, min_max, bw, pacer, new_reno, cubic, bbr, bbr_modes, bbr_edges, bbr_connections";
 
 fn main() -> ExitCode {
+    cube_root::assert_in_place();
     let args: Vec<String> = env::args().skip(1).collect();
     let words: Vec<&str> = args.iter().map(String::as_str).collect();
     match run(&words) {
@@ -44,28 +46,34 @@ fn run(words: &[&str]) -> Result<(), Box<dyn Error>> {
             Ok(())
         }
         [command, module, rest @ ..] => match *module {
-            "rtt" => run_on::<rtt::View>(command, rest),
-            "min_max" => run_on::<min_max::View>(command, rest),
-            "bw" => run_on::<bw::View>(command, rest),
-            "pacer" => run_on::<pacer::View>(command, rest),
+            "rtt" => run_on(rtt::list, command, rest),
+            "min_max" => run_on(min_max::list, command, rest),
+            "bw" => run_on(bw::list, command, rest),
+            "pacer" => run_on(pacer::list, command, rest),
+            "new_reno" => run_on(new_reno::list, command, rest),
+            "cubic" => run_on(cubic::list, command, rest),
+            "bbr" => run_on(bbr::list, command, rest),
+            "bbr_modes" => run_on(bbr::modes_list, command, rest),
+            "bbr_edges" => run_on(bbr::edges_list, command, rest),
+            "bbr_connections" => run_on(bbr::connections_list, command, rest),
             _ => Err(USAGE.into()),
         },
         _ => Err(USAGE.into()),
     }
 }
 
-fn run_on<S: Listed>(command: &str, rest: &[&str]) -> Result<(), Box<dyn Error>> {
+fn run_on<S: Subject>(list: List<S>, command: &str, rest: &[&str]) -> Result<(), Box<dyn Error>> {
     match (command, rest) {
-        ("record", [folder]) => record::<S>(Path::new(folder)),
+        ("record", [folder]) => record(list, Path::new(folder)),
         ("answer", []) => answer::<S>(),
         _ => Err(USAGE.into()),
     }
 }
 
-/// Writes the lists of a module: the calls to `stdin`, the replies to `stdout`.
-fn record<S: Listed>(folder: &Path) -> Result<(), Box<dyn Error>> {
-    let mut recorder = Recorder::<S>::new();
-    S::list(&mut recorder, &mut Xorshift::new());
+/// Writes a list: the calls to `stdin`, the replies to `stdout`.
+fn record<S: Subject>(list: List<S>, folder: &Path) -> Result<(), Box<dyn Error>> {
+    let mut recorder = Recorder::new();
+    list(&mut recorder, &mut Xorshift::new());
     fs::create_dir_all(folder)?;
     fs::write(folder.join("stdin"), &recorder.calls)?;
     fs::write(folder.join("stdout"), &recorder.replies)?;
@@ -84,8 +92,7 @@ fn answer<S: Subject>() -> Result<(), Box<dyn Error>> {
     io::stdin().read_to_string(&mut calls)?;
     let mut session = Session::<S>::new();
     for text in calls.lines() {
-        let reply = text.parse::<Call>().map_err(Failure::from);
-        match reply.and_then(|call| session.perform(&call)) {
+        match session.perform(&Call::on(text)) {
             Ok(reply) => println!("{}", reply.line()),
             Err(Failure::Panic(message)) => println!("panic {message}"),
             Err(Failure::Malformed) => return Err(format!("no call: {text}").into()),

@@ -116,14 +116,31 @@ impl<S: Subject> Recorder<S> {
         subject.expect("a sequence starts with `new`")
     }
 
+    /// The subject as it would be after a call, which is not written down.
+    ///
+    /// # Panics
+    /// Where this is no call of the subject, or the crate panics.
+    pub fn after(&self, call: &str) -> S {
+        let after = catching(|| step(Some(self.subject()), &Call::on(call)));
+        match after {
+            Ok(Ok((subject, _))) => subject,
+            _ => panic!("no reply to: {call}"),
+        }
+    }
+
+    /// Performs the call of that name, all of whose arguments are numbers, as `perform` does.
+    pub fn call(&mut self, name: &str, args: &[u64]) -> Option<String> {
+        let words: String = args.iter().map(|arg| format!(" {arg}")).collect();
+        self.perform(&(name.to_owned() + &words))
+    }
+
     /// Performs a call and writes it down with its reply. A call at which the crate panics is left
     /// out and changes nothing. The crate's answer, where the call has one.
     ///
     /// # Panics
     /// Where this is no call of the subject.
-    pub fn call(&mut self, name: &str, args: &[u64]) -> Option<String> {
-        let call = Call::new(name, args);
-        match self.session.perform(&call) {
+    pub fn perform(&mut self, call: &str) -> Option<String> {
+        match self.session.perform(&Call::on(call)) {
             Ok(reply) => {
                 self.calls += &format!("{call}\n");
                 self.replies += &format!("{}\n", reply.line());

@@ -16,4 +16,4 @@ abbrev pub shifted : ℕ → ℕ
 shifted x = xor-left 5 (xor-right 17 (xor-left 13 x))
 
 abbrev pub seeded : ℕ → ℕ
-seeded seed = cond (eqb seed 0) 1 seed
+seeded n = cond (eqb n 0) 1 n

@@ -17,4 +17,6 @@ pub record Computed (w : WorkedFigures) : Type 0 where
   pub round-11 : w .«round_11» ≡ (5, 3, 3)
   pub round-12 : w .«round_12» ≡ (3, 3, 3)
   pub eleventh : w .eleventh ≡ Some 4000000
+  pub halved : w .halving .halved ≡ 6600
+  pub floored : w .halving .floored ≡ 2400
   pub limit : w .numbers .«root_of_limit» ≡ ofInt binary64 (pos 128)

@@ -6,6 +6,8 @@ use crate::filter_figures::choices_after;
 use crate::pacer_figures::told_after;
 use crate::rtt_figures::Smoothing;
 use crate::rtt_figures::after_two_samples;
+use new_reno::figures::Worked as Halving;
+use new_reno::figures::compute as halve;
 use numbers::figures::Worked;
 use numbers::figures::compute;
 use refusals::Refusal;
@@ -23,6 +25,8 @@ pub struct WorkedFigures {
     pub round_12: (u64, u64, u64),
     // What the eleventh of a burst of datagrams is told.
     pub eleventh: Option<u64>,
+    // NewReno's window after a loss, from 13,200 and from 4,000.
+    pub halving: Halving,
 }
 
 // Every worked figure, computed. The table holds of the definitions, and the code gives its numbers.
@@ -38,5 +42,6 @@ pub fn worked_figures() -> Result<WorkedFigures, Refusal>
         round_11: choices_after(11),
         round_12: choices_after(12),
         eleventh: told_after(10)?,
+        halving: halve()?,
     })
 }

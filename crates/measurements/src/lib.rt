@@ -2,4 +2,4 @@
 pub mod faults;
 pub mod line;
 pub mod number;
-mod parts;
+pub mod parts;

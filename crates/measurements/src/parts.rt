@@ -5,7 +5,7 @@ ghost use lib.ListN.{length};
 ghost use Rattle.measurements.specs.Lines.{before, unreturned, isBlank, allBlank};
 
 // How many bytes stand before the first `stop`: all of them where there is none.
-pub(crate) fn place_of(bytes: &[u8], stop: u8) -> usize
+pub fn place_of(bytes: &[u8], stop: u8) -> usize
     ensures value { λ r. ⌜ r ≡ before stop (now (bytes .entry)) ⌝ }
     ensures within { λ r. ⌜ r ≤ length (now (bytes .entry)) ⌝ }
 {
@@ -24,7 +24,7 @@ fn is_space(byte: u8) -> bool
 }
 
 // Whether a line has nothing but spaces and tabs.
-pub(crate) fn is_blank(line: &[u8]) -> bool
+pub fn is_blank(line: &[u8]) -> bool
     ensures { λ r. ⌜ r ≡ allBlank (now (line .entry)) ⌝ }
 {
     for byte in line {
@@ -36,7 +36,7 @@ pub(crate) fn is_blank(line: &[u8]) -> bool
 }
 
 // A line without the carriage return that some systems put before a newline.
-pub(crate) fn without_return(line: &[u8]) -> &[u8]
+pub fn without_return(line: &[u8]) -> &[u8]
     ensures { λ r. ⌜ now r ≡ unreturned (now (line .entry)) ⌝ }
 {
     if line.is_empty() {

@@ -15,12 +15,19 @@ pub(crate) fn perform(
     estimation: &mut BandwidthEstimation,
     call: &Call,
 ) -> Result<Option<OrNone>, AnyError> {
-    let [a, b, c, d, e, _] = call.args;
     match call.name {
-        "on_sent" => estimation.on_sent(a, b),
-        "on_ack" => estimation.on_ack(a, c, d, e == 1),
+        "on_sent" => estimation.on_sent(call.number(0)?, call.number(1)?),
+        "on_ack" => estimation.on_ack(
+            call.number(0)?,
+            call.number(2)?,
+            call.number(3)?,
+            call.flag(4)?,
+        ),
         "end_acks" => estimation.end_acks(),
-        "bw_from_delta" => return Ok(Some(OrNone(bw_from_delta(a, b)))),
+        "bw_from_delta" => {
+            let rate = bw_from_delta(call.number(0)?, call.number(1)?);
+            return Ok(Some(OrNone(rate)));
+        }
         _ => return Err("no call of a bandwidth estimation".into()),
     }
     Ok(None)

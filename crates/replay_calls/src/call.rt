@@ -1,26 +1,57 @@
-// A call as it is recorded.
+// A call as it is recorded: a name and its arguments, with a space between.
 use std::error::AnyError;
 use std::fmt;
 
-// A name and its arguments; those that are not given are 0.
 #[derive(Clone, Copy)]
 pub(crate) struct Call<'a> {
     pub(crate) name: &'a str,
-    pub(crate) args: [u64; 6],
+    arguments: &'a str,
 }
 
-pub(crate) fn parse(line: &str) -> Result<Call<'_>, AnyError> {
-    let mut args = [0u64; 6];
-    let Some((name, rest)) = line.split_once(' ') else {
-        return Ok(Call { name: line, args });
-    };
-    for (place, word) in rest.split(' ').enumerate() {
-        if place >= 6 {
-            return Err("a call has at most six arguments".into());
-        }
-        args[place] = word.parse::<u64>()?;
+pub(crate) fn parse(line: &str) -> Call<'_> {
+    match line.split_once(' ') {
+        Some((name, arguments)) => Call { name, arguments },
+        None => Call {
+            name: line,
+            arguments: "",
+        },
     }
-    Ok(Call { name, args })
+}
+
+impl<'a> Call<'a> {
+    fn word(&self, place: usize) -> Result<&'a str, AnyError> {
+        match self.arguments.split(' ').nth(place) {
+            Some(word) => Ok(word),
+            None => Err("an argument is missing".into()),
+        }
+    }
+
+    // A number in decimal.
+    pub(crate) fn number(&self, place: usize) -> Result<u64, AnyError> {
+        Ok(self.word(place)?.parse::<u64>()?)
+    }
+
+    pub(crate) fn size(&self, place: usize) -> Result<u16, AnyError> {
+        Ok(u16::try_from(self.number(place)?)?)
+    }
+
+    // 0 or 1.
+    pub(crate) fn flag(&self, place: usize) -> Result<bool, AnyError> {
+        Ok(self.number(place)? == 1)
+    }
+
+    // A number, or `none`.
+    pub(crate) fn number_if_any(&self, place: usize) -> Result<Option<u64>, AnyError> {
+        if self.word(place)? == "none" {
+            return Ok(None);
+        }
+        Ok(Some(self.number(place)?))
+    }
+
+    // The bits of a float, in hexadecimal.
+    pub(crate) fn bits(&self, place: usize) -> Result<u32, AnyError> {
+        Ok(u32::from_str_radix(self.word(place)?, 16)?)
+    }
 }
 
 // A number, or `none`.

@@ -2,6 +2,7 @@
 // answer, if it has one. A line `module NAME` says whose calls follow; each sequence of calls starts with `new`.
 mod bw_calls;
 mod call;
+mod controller_calls;
 mod min_max_calls;
 mod pacer_calls;
 mod rtt_calls;
@@ -12,6 +13,9 @@ use crate::call::Call;
 use crate::call::OrNone;
 use crate::call::OrNoneDisplay;
 use crate::call::parse;
+use crate::controller_calls::Controlled;
+use crate::controller_calls::CubicDisplay;
+use crate::controller_calls::NewRenoDisplay;
 use crate::min_max_calls::FilterDisplay;
 use crate::min_max_calls::FilterState;
 use crate::pacer_calls::PacerDisplay;
@@ -19,8 +23,12 @@ use crate::pacer_calls::PacerState;
 use crate::rtt_calls::EstimatorDisplay;
 use crate::rtt_calls::EstimatorState;
 use bandwidth::bw_estimation::BandwidthEstimation;
+use cubic::cubic::Cubic;
+use cubic::cubic::control::CubicController;
 use filter::min_max::MinMax;
 use filter::order::U64Order;
+use new_reno::new_reno::NewReno;
+use new_reno::new_reno::control::NewRenoController;
 use pacing::pacer::Pacer;
 use rtt::estimator::RttEstimator;
 use std::error::AnyError;
@@ -34,6 +42,8 @@ enum Module {
     MinMax,
     Bandwidth,
     Pacer,
+    NewReno,
+    Cubic,
 }
 
 // What the calls are made on.
@@ -43,6 +53,8 @@ enum Subject {
     MinMax(MinMax<u64>),
     Bandwidth(BandwidthEstimation),
     Pacer(Pacer),
+    NewReno(Controlled<NewReno>),
+    Cubic(Controlled<Cubic>),
 }
 
 fn named(name: &str) -> Result<Module, AnyError> {
@@ -51,6 +63,8 @@ fn named(name: &str) -> Result<Module, AnyError> {
         "min_max" => Ok(Module::MinMax),
         "bw" => Ok(Module::Bandwidth),
         "pacer" => Ok(Module::Pacer),
+        "new_reno" => Ok(Module::NewReno),
+        "cubic" => Ok(Module::Cubic),
         _ => Err("no such module".into()),
     }
 }
@@ -61,6 +75,8 @@ fn made(module: Module, call: &Call) -> Result<Subject, AnyError> {
         Module::MinMax => Ok(Subject::MinMax(MinMax::new())),
         Module::Bandwidth => Ok(Subject::Bandwidth(BandwidthEstimation::new())),
         Module::Pacer => Ok(Subject::Pacer(pacer_calls::make(call)?)),
+        Module::NewReno => Ok(Subject::NewReno(controller_calls::new_reno(call)?)),
+        Module::Cubic => Ok(Subject::Cubic(controller_calls::cubic(call)?)),
     }
 }
 
@@ -83,6 +99,14 @@ fn performed(subject: Subject, call: &Call) -> Result<(Subject, Option<OrNone>),
             let answer = pacer_calls::perform(&mut pacer, call)?;
             Ok((Subject::Pacer(pacer), answer))
         }
+        Subject::NewReno(mut controlled) => {
+            controller_calls::perform(&mut controlled, call)?;
+            Ok((Subject::NewReno(controlled), None))
+        }
+        Subject::Cubic(mut controlled) => {
+            controller_calls::perform(&mut controlled, call)?;
+            Ok((Subject::Cubic(controlled), None))
+        }
     }
 }
 
@@ -97,6 +121,8 @@ impl fmt::Display for Subject as SubjectDisplay {
             }
             Subject::Bandwidth(estimation) => BandwidthState(estimation).fmt(f),
             Subject::Pacer(pacer) => PacerState(pacer).fmt(f),
+            Subject::NewReno(controlled) => controlled.fmt(f),
+            Subject::Cubic(controlled) => controlled.fmt(f),
         }
     }
 }
@@ -119,7 +145,7 @@ fn replay(rt: &LibcRuntime) -> Result<(), AnyError> {
             println!(rt, "module {name}")?;
             continue;
         }
-        let call = parse(line.as_str())?;
+        let call = parse(line.as_str());
         let (next, answer) = match subject {
             Some(subject) if call.name != "new" => performed(subject, &call)?,
             _ => (made(current, &call)?, None),

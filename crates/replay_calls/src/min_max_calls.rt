@@ -7,7 +7,7 @@ use std::fmt;
 
 pub(crate) fn perform(filter: &mut MinMax<u64>, call: &Call) -> Result<(), AnyError> {
     match call.name {
-        "update_max" => filter.update_max(call.args[0], call.args[1]),
+        "update_max" => filter.update_max(call.number(0)?, call.number(1)?),
         "reset" => filter.reset(),
         _ => return Err("no call of a filter".into()),
     }

@@ -6,30 +6,41 @@ use std::error::AnyError;
 use std::fmt;
 use values::mtu::Mtu;
 
-fn mtu(bytes: u64) -> Result<Mtu, AnyError> {
-    match Mtu::new(u16::try_from(bytes)?) {
+// The MTU at a place of a call.
+pub(crate) fn mtu(call: &Call, place: usize) -> Result<Mtu, AnyError> {
+    match Mtu::new(call.size(place)?) {
         Ok(mtu) => Ok(mtu),
         Err(_) => Err("no MTU".into()),
     }
 }
 
 pub(crate) fn make(call: &Call) -> Result<Pacer, AnyError> {
-    let [smoothed_rtt, window, mtu_bytes, time, ..] = call.args;
-    Ok(Pacer::new(smoothed_rtt, window, mtu(mtu_bytes)?, time))
+    let mtu = mtu(call, 2)?;
+    Ok(Pacer::new(call.number(0)?, call.number(1)?, mtu, call.number(3)?))
+}
+
+fn delay(pacer: &mut Pacer, call: &Call) -> Result<OrNone, AnyError> {
+    let mtu = mtu(call, 2)?;
+    match pacer.delay(
+        call.number(0)?,
+        call.number(1)?,
+        mtu,
+        call.number(3)?,
+        call.number(4)?,
+    ) {
+        Ok(answer) => Ok(OrNone(answer)),
+        Err(_) => Err("refused".into()),
+    }
 }
 
 // The answer, where the call has one.
 pub(crate) fn perform(pacer: &mut Pacer, call: &Call) -> Result<Option<OrNone>, AnyError> {
-    let [a, bytes, mtu_bytes, window, time, _] = call.args;
     match call.name {
         "on_transmit" => {
-            pacer.on_transmit(u16::try_from(a)?);
+            pacer.on_transmit(call.size(0)?);
             Ok(None)
         }
-        "delay" => match pacer.delay(a, bytes, mtu(mtu_bytes)?, window, time) {
-            Ok(answer) => Ok(Some(OrNone(answer))),
-            Err(_) => Err("refused".into()),
-        },
+        "delay" => Ok(Some(delay(pacer, call)?)),
         _ => Err("no call of a pacer".into()),
     }
 }

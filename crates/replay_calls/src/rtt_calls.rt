@@ -7,19 +7,31 @@ use std::error::AnyError;
 use std::fmt;
 use values::rtt::Rtt;
 
-pub(crate) fn make(call: &Call) -> Result<RttEstimator, AnyError> {
-    match Rtt::new(call.args[0]) {
+// An estimator with an initial time.
+pub(crate) fn opened(nanos: u64) -> Result<RttEstimator, AnyError> {
+    match Rtt::new(nanos) {
         Ok(initial_rtt) => Ok(RttEstimator::new(initial_rtt)),
         Err(_) => Err("no round-trip time".into()),
     }
 }
 
-pub(crate) fn perform(estimator: &mut RttEstimator, call: &Call) -> Result<(), AnyError> {
-    let [ack_delay, rtt, ..] = call.args;
-    match (call.name, estimator.update(ack_delay, rtt)) {
-        ("update", Ok(())) => Ok(()),
-        _ => Err("no call of an estimator".into()),
+pub(crate) fn make(call: &Call) -> Result<RttEstimator, AnyError> {
+    opened(call.number(0)?)
+}
+
+// A sample: an ack delay and a round-trip time.
+pub(crate) fn sample(estimator: &mut RttEstimator, call: &Call) -> Result<(), AnyError> {
+    match estimator.update(call.number(0)?, call.number(1)?) {
+        Ok(()) => Ok(()),
+        Err(_) => Err("refused".into()),
     }
+}
+
+pub(crate) fn perform(estimator: &mut RttEstimator, call: &Call) -> Result<(), AnyError> {
+    if call.name != "update" {
+        return Err("no call of an estimator".into());
+    }
+    sample(estimator, call)
 }
 
 // The state, and the answers of the questions.

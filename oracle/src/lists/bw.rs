@@ -6,7 +6,7 @@ use std::ops::RangeInclusive;
 
 pub use crate::congestion::oracle_view::bbr::bw_estimation::View;
 
-use super::{LAST_TIME, Listed, MILLISECOND};
+use super::{LAST_TIME, MILLISECOND};
 use crate::random::Xorshift;
 use crate::recorder::Recorder;
 
@@ -16,15 +16,14 @@ const MOST_BYTES: u64 = u64::MAX / 1_000_000_000;
 
 const TIMES: RangeInclusive<u64> = 0..=LAST_TIME;
 
-impl Listed for View {
-    fn list(recorder: &mut Recorder<Self>, random: &mut Xorshift) {
-        worked_figures(recorder);
-        rates(recorder, random);
-        orders_of_calls(recorder);
-        small_values(recorder);
-        around_edges(recorder, random);
-        flows(recorder, random);
-    }
+/// Records the list.
+pub fn list(recorder: &mut Recorder<View>, random: &mut Xorshift) {
+    worked_figures(recorder);
+    rates(recorder, random);
+    orders_of_calls(recorder);
+    small_values(recorder);
+    around_edges(recorder, random);
+    flows(recorder, random);
 }
 
 /// Datagrams of 1,200 bytes sent and acked a millisecond apart: 1,200,000 bytes a second.

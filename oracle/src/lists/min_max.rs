@@ -3,21 +3,19 @@
 
 pub use crate::congestion::oracle_view::bbr::min_max::View;
 
-use super::Listed;
 use crate::random::Xorshift;
 use crate::recorder::Recorder;
 
 /// Numbers of rounds on both sides of a quarter of the window of 10, of half of it and of the whole.
 const STEPS: &[u64] = &[0, 1, 2, 3, 5, 6, 10, 11];
 
-impl Listed for View {
-    fn list(recorder: &mut Recorder<Self>, random: &mut Xorshift) {
-        worked_figures(recorder);
-        small_values(recorder);
-        three_levels(recorder);
-        around_edges(recorder, random);
-        falling_bandwidths(recorder, random);
-    }
+/// Records the list.
+pub fn list(recorder: &mut Recorder<View>, random: &mut Xorshift) {
+    worked_figures(recorder);
+    small_values(recorder);
+    three_levels(recorder);
+    around_edges(recorder, random);
+    falling_bandwidths(recorder, random);
 }
 
 /// A best value of round 1 stands in round 11 and is gone in round 12.

@@ -5,7 +5,7 @@ use std::ops::RangeInclusive;
 
 pub use crate::connection::pacing::oracle_view::View;
 
-use super::{LAST_TIME, Listed, MILLISECOND};
+use super::{LAST_TIME, MILLISECOND};
 use crate::random::Xorshift;
 use crate::recorder::Recorder;
 
@@ -48,17 +48,16 @@ fn drain(recorder: &mut Recorder<View>) {
     }
 }
 
-impl Listed for View {
-    fn list(recorder: &mut Recorder<Self>, random: &mut Xorshift) {
-        worked_figures(recorder);
-        fractions_of_tokens(recorder);
-        corners(recorder);
-        capacities(recorder, random);
-        around_edges(recorder, random);
-        refills(recorder, random);
-        whole_tokens(recorder, random);
-        flows(recorder, random);
-    }
+/// Records the list.
+pub fn list(recorder: &mut Recorder<View>, random: &mut Xorshift) {
+    worked_figures(recorder);
+    fractions_of_tokens(recorder);
+    corners(recorder);
+    capacities(recorder, random);
+    around_edges(recorder, random);
+    refills(recorder, random);
+    whole_tokens(recorder, random);
+    flows(recorder, random);
 }
 
 const WORKED: Conditions = Conditions {

@@ -4,7 +4,7 @@ use std::ops::RangeInclusive;
 
 pub use crate::connection::paths::oracle_view::View;
 
-use super::{Listed, MILLISECOND};
+use super::MILLISECOND;
 use crate::random::Xorshift;
 use crate::recorder::Recorder;
 
@@ -21,14 +21,13 @@ const EDGES: &[u64] = &[
     10_000_000_000,
 ];
 
-impl Listed for View {
-    fn list(recorder: &mut Recorder<Self>, random: &mut Xorshift) {
-        worked_figures(recorder);
-        small_values(recorder);
-        around_edges(recorder, random);
-        samples_of_any_size(recorder, random);
-        connections(recorder, random);
-    }
+/// Records the list.
+pub fn list(recorder: &mut Recorder<View>, random: &mut Xorshift) {
+    worked_figures(recorder);
+    small_values(recorder);
+    around_edges(recorder, random);
+    samples_of_any_size(recorder, random);
+    connections(recorder, random);
 }
 
 /// A delay of up to 40 ms is taken off a sample of 90 ms where the least RTT is 50 ms.

@@ -1,9 +1,7 @@
 //! `Pacer`, driven and read from inside its module.
 
 use super::Pacer;
-use crate::Duration;
-use crate::clock;
-use crate::subject::{Call, Field, Malformed, Subject, line};
+use crate::subject::{Call, Field, Malformed, Subject, line, read};
 
 /// The pacer.
 pub struct View(Pacer);
@@ -36,29 +34,25 @@ impl Clone for View {
 }
 
 impl Subject for View {
-    fn make(args: &[u64]) -> Result<Self, Malformed> {
-        let &[rtt, window, mtu, now] = args else {
+    fn make(args: &[&str]) -> Result<Self, Malformed> {
+        let [rtt, window, mtu, now] = args else {
             return Err(Malformed);
         };
-        let rtt = Duration::from_nanos(rtt);
-        Ok(Self(Pacer::new(
-            rtt,
-            window,
-            mtu.try_into()?,
-            clock::at(now),
-        )))
+        let pacer = Pacer::new(read(rtt)?, read(window)?, read(mtu)?, read(now)?);
+        Ok(Self(pacer))
     }
 
     fn perform(&mut self, call: &Call) -> Result<Option<String>, Malformed> {
         match call.parts() {
-            ("on_transmit", &[length]) => {
-                self.0.on_transmit(length.try_into()?);
+            ("on_transmit", [length]) => {
+                self.0.on_transmit(read(length)?);
                 Ok(None)
             }
-            ("delay", &[rtt, bytes, mtu, window, now]) => {
-                let rtt = Duration::from_nanos(rtt);
-                let now = clock::at(now);
-                let answer = self.0.delay(rtt, bytes, mtu.try_into()?, window, now);
+            ("delay", [rtt, bytes, mtu, window, now]) => {
+                let (rtt, now) = (read(rtt)?, read(now)?);
+                let answer = self
+                    .0
+                    .delay(rtt, read(bytes)?, read(mtu)?, read(window)?, now);
                 Ok(Some(answer.text()))
             }
             _ => Err(Malformed),

@@ -1,8 +1,7 @@
 //! `RttEstimator`, driven and read from inside its module.
 
 use super::RttEstimator;
-use crate::Duration;
-use crate::subject::{Call, Malformed, Subject, line};
+use crate::subject::{Call, Malformed, Subject, line, read};
 
 /// The RTT estimator.
 #[derive(Clone)]
@@ -21,19 +20,18 @@ impl View {
 }
 
 impl Subject for View {
-    fn make(args: &[u64]) -> Result<Self, Malformed> {
+    fn make(args: &[&str]) -> Result<Self, Malformed> {
         match args {
-            &[initial_rtt] => Ok(Self(RttEstimator::new(Duration::from_nanos(initial_rtt)))),
+            [initial_rtt] => Ok(Self(RttEstimator::new(read(initial_rtt)?))),
             _ => Err(Malformed),
         }
     }
 
     fn perform(&mut self, call: &Call) -> Result<Option<String>, Malformed> {
-        let ("update", &[ack_delay, rtt]) = call.parts() else {
+        let ("update", [ack_delay, rtt]) = call.parts() else {
             return Err(Malformed);
         };
-        self.0
-            .update(Duration::from_nanos(ack_delay), Duration::from_nanos(rtt));
+        self.0.update(read(ack_delay)?, read(rtt)?);
         Ok(None)
     }
 

@@ -1,7 +1,7 @@
 //! `MinMax`, driven and read from inside its module.
 
 use super::MinMax;
-use crate::subject::{Call, Malformed, Subject, line};
+use crate::subject::{Call, Malformed, Subject, line, read};
 
 /// The windowed maximum filter.
 #[derive(Clone)]
@@ -22,7 +22,7 @@ pub(in crate::congestion::bbr) fn fields(filter: &MinMax) -> String {
 }
 
 impl Subject for View {
-    fn make(args: &[u64]) -> Result<Self, Malformed> {
+    fn make(args: &[&str]) -> Result<Self, Malformed> {
         match args {
             [] => Ok(Self(MinMax::default())),
             _ => Err(Malformed),
@@ -31,7 +31,7 @@ impl Subject for View {
 
     fn perform(&mut self, call: &Call) -> Result<Option<String>, Malformed> {
         match call.parts() {
-            ("update_max", &[round, value]) => self.0.update_max(round, value),
+            ("update_max", [round, value]) => self.0.update_max(read(round)?, read(value)?),
             ("reset", []) => self.0.reset(),
             _ => return Err(Malformed),
         }

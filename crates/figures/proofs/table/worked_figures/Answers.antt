@@ -12,6 +12,7 @@ returns c =
             numbers = c .compute .ensures .stand;
             filter = record { round-11 = refl; round-12 = refl };
             pacer = eleventh;
+            new-reno = c .compute-2 .ensures .stand;
           };
       computed =
           record {
@@ -25,6 +26,8 @@ returns c =
             round-11 = c .choices-after .ensures;
             round-12 = c .choices-after-2 .ensures;
             eleventh = eleventh-time _ (c .in-Continue-told-after .ensures tt);
+            halved = search needs;
+            floored = search needs;
             limit = c .compute .ensures .limit;
           };
     }

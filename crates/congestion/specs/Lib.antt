@@ -1,0 +1,4 @@
+pub mod Limits
+pub mod Makers
+pub mod Meaning
+pub mod Growth

@@ -1,0 +1,4 @@
+pub mod Limits
+pub mod ByteCounting
+pub mod Steps
+pub mod Figures
