@@ -3,9 +3,9 @@
 
 usage: python3 tools/respell.py    (once, at the top of the checkout, after the kit's port.py)
 
-Only names that crates/*/specs and crates/*/proofs declare are turned, and only as whole names, in .antt files, in the
-ghost text of .rt files (contracts, ghost items and `ghost use` lines) and in must-fail edits of those. Functions of src/,
-strings, inputs and outputs are left. It stops before it writes where two names would fall together.
+Only names that crates/*/specs and crates/*/proofs declare, and traits' ghost members, are turned, and only as whole names,
+in .antt files and in the ghost text of .rt files (contracts, ghost items and `ghost use` lines). Functions of src/, strings,
+inputs, outputs and must-fail edits are left. It stops before it writes where two names would fall together.
 """
 
 import os
@@ -14,13 +14,14 @@ import sys
 
 DECLARED = re.compile(r"^(?:abbrev |unfoldable |ruleset )?(?:pub )?(?:abbrev |unfoldable |data |record |ruleset )?(?:pub )?([^\s:(){}\"]+)\s*(?::(?!\s*goal\.)|\{|\()", re.M)
 FIELD = re.compile(r"^\s+(?:pub )?([^\s:(){}\",;=]+) :(?!\s*goal\.)", re.M)
+MEMBER = re.compile(r"^\s+ghost (\w+)(?::| =)", re.M)
 INLINE = re.compile(r"[{;]\s*([^\s:(){}\",;=]+) :(?!\s*goal\.)")
 NAME = r"[\w'′·◌-]"
 
 
-# where the plain spelling would fall together with another definition's
-APART = {"is-out": "out_is"}
-# fields of two records in crates that know nothing of one another
+# Where the plain spelling would fall together with that of a test beside it, or with a function that says something else.
+APART = {"is-out": "out_is", "isBlank": "is_blank_byte"}
+# Fields of two records, in crates that know nothing of one another
 ALIKE = {"inFlight", "in-flight"}
 
 
@@ -71,6 +72,11 @@ def main():
         for pattern in (DECLARED, FIELD, INLINE):
             for found in pattern.findall(text):
                 declared.setdefault(found, set()).add(path)
+    for path in files("crates"):
+        if path.endswith(".rt"):
+            for found in MEMBER.findall(read(path)):
+                if found[0].islower():
+                    declared.setdefault(found, set()).add(path)
     names = {n: snake(n) for n in declared if n[0].isalpha() and snake(n) != n}
     bad = [f"{n} -> {to}, which {sorted(declared[to])[0]} declares" for n, to in names.items() if to in declared]
     seen = {}
