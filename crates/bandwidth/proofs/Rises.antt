@@ -1,5 +1,5 @@
 -- The estimate never falls. Assumes nothing.
-use Rattle.std.proofs.Common.{◌≡◌, ℕ, ◌-◌, ◌<◌, ◌≤◌, min, Bool, true, false, cond, not, ◌&&◌, ◌||◌, ltb, leb, List, [], ◌∷◌, Some, None, Option, refl, le_trans, le_refl, arith}
+use Rattle.std.proofs.Common.{◌≡◌, ℕ, ◌-◌, ◌<◌, ◌≤◌, min, Bool, true, false, not, ◌&&◌, ltb, leb, List, [], ◌∷◌, Some, None, Option, le_trans, le_refl, arith}
 use Rattle.std.proofs.lemmas.Bool.{both_ways, cond_both, and_parts, ltb-true, le-leb, or_left, or_right}
 use Rattle.filter.specs.Filter.{updated, is_replaced, filled}
 use Rattle.filter.specs.declared.min_max.MinMax.{MinMax}

@@ -31,15 +31,15 @@ pub trait Controller {
     ghost initial: { Model → ℕ };
 
     // The state after each call, from the state before and what the call was told.
-    ghost afterSent: { Model → ℕ → ℕ → ℕ → Model };
+    ghost after_sent: { Model → ℕ → ℕ → ℕ → Model };
 
-    ghost afterAck: { Model → ℕ → ℕ → ℕ → Bool → Estimate → Model };
+    ghost after_ack: { Model → ℕ → ℕ → ℕ → Bool → Estimate → Model };
 
-    ghost afterEnd: { Model → ℕ → ℕ → Bool → Maybe ℕ → Model };
+    ghost after_end: { Model → ℕ → ℕ → Bool → Maybe ℕ → Model };
 
-    ghost afterLoss: { Model → ℕ → ℕ → Bool → ℕ → Model };
+    ghost after_loss: { Model → ℕ → ℕ → Bool → ℕ → Model };
 
-    ghost afterMtu: { Model → ℕ → Model };
+    ghost after_mtu: { Model → ℕ → Model };
 
     /// `FLOOR`.
     fn floor_datagrams() -> u64
@@ -47,14 +47,14 @@ pub trait Controller {
 
     /// One or more packets were just sent.
     fn on_sent(&mut self, time: u64, bytes: u64, last_packet_number: u64)
-        ensures { model self.new ≡ afterSent (model self.old) time bytes last_packet_number };
+        ensures { model self.new ≡ after_sent (model self.old) time bytes last_packet_number };
 
     /// A packet's delivery was confirmed: `bytes` sent at `sent`.
     ///
     /// `app_limited` says whether the connection was blocked on the application's data before these
     /// acknowledgements came.
     fn on_ack(&mut self, time: u64, sent: u64, bytes: u64, app_limited: bool, rtt: &RttEstimator)
-        ensures { model self.new ≡ afterAck (model self.old) time sent bytes app_limited (estimate_of rtt.now) };
+        ensures { model self.new ≡ after_ack (model self.old) time sent bytes app_limited (estimate_of rtt.now) };
 
     /// Packets are acknowledged in batches, all with the same `time`: one of those batches has ended.
     fn on_end_acks(
@@ -64,7 +64,7 @@ pub trait Controller {
         app_limited: bool,
         largest_packet_num_acked: Option<u64>,
     )
-        ensures { model self.new ≡ afterEnd (model self.old) time in_flight app_limited largest_packet_num_acked };
+        ensures { model self.new ≡ after_end (model self.old) time in_flight app_limited largest_packet_num_acked };
 
     /// Packets were deemed lost, the latest of them sent at `sent`.
     ///
@@ -77,11 +77,11 @@ pub trait Controller {
         is_persistent_congestion: bool,
         lost_bytes: u64,
     )
-        ensures { model self.new ≡ afterLoss (model self.old) time sent is_persistent_congestion lost_bytes };
+        ensures { model self.new ≡ after_loss (model self.old) time sent is_persistent_congestion lost_bytes };
 
     /// The known MTU of the path has changed.
     fn on_mtu_update(&mut self, new_mtu: Mtu)
-        ensures { model self.new ≡ afterMtu (model self.old) new_mtu.value };
+        ensures { model self.new ≡ after_mtu (model self.old) new_mtu.value };
 
     /// The bytes that may be in flight.
     fn window(&self) -> u64
@@ -101,13 +101,13 @@ pub trait Controller {
 
     ghost shows: { (x : Model) → (measured x).congestion_window ≡ (meaning x).window };
 
-    ghost sends: { (x : Model) (t n p : ℕ) → meaning (afterSent x t n p) ≡ told_sent (meaning x) n };
+    ghost sends: { (x : Model) (t n p : ℕ) → meaning (after_sent x t n p) ≡ told_sent (meaning x) n };
 
-    ghost acks: { (x : Model) (t s n : ℕ) (b : Bool) (e : Estimate) → meaning (afterAck x t s n b e) ≡ told_acked (meaning x) n (meaning (afterAck x t s n b e)).window };
+    ghost acks: { (x : Model) (t s n : ℕ) (b : Bool) (e : Estimate) → meaning (after_ack x t s n b e) ≡ told_acked (meaning x) n (meaning (after_ack x t s n b e)).window };
 
-    ghost ends: { (x : Model) (t f : ℕ) (b : Bool) (p : Maybe ℕ) → meaning (afterEnd x t f b p) ≡ told_end (meaning x) (meaning (afterEnd x t f b p)).window };
+    ghost ends: { (x : Model) (t f : ℕ) (b : Bool) (p : Maybe ℕ) → meaning (after_end x t f b p) ≡ told_end (meaning x) (meaning (after_end x t f b p)).window };
 
-    ghost loses: { (x : Model) (t s : ℕ) (b : Bool) (n : ℕ) → meaning (afterLoss x t s b n) ≡ told_lost (meaning x) n (meaning (afterLoss x t s b n)).window };
+    ghost loses: { (x : Model) (t s : ℕ) (b : Bool) (n : ℕ) → meaning (after_loss x t s b n) ≡ told_lost (meaning x) n (meaning (after_loss x t s b n)).window };
 
-    ghost resizes: { (x : Model) (n : ℕ) → meaning (afterMtu x n) ≡ told_mtu (meaning x) n (meaning (afterMtu x n)).window };
+    ghost resizes: { (x : Model) (n : ℕ) → meaning (after_mtu x n) ≡ told_mtu (meaning x) n (meaning (after_mtu x n)).window };
 }

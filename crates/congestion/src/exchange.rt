@@ -17,10 +17,10 @@ pub fn exchange<C: Controller>(
     number: u64,
     rtt: &RttEstimator,
 ) -> u64
-    ensures state { model controller.new ≡ afterAck (afterSent (model controller.old) sent bytes number) time sent bytes false (estimate_of rtt.now) }
-    ensures totals { Delivered bytes (meaning (model controller.old)) (meaning (model controller.new)) }
-    ensures window { result ≡ (meaning (model controller.new)).window }
-    ensures floor { least * (meaning (model controller.old)).mtu ≤ result }
+    ensures state { C.model controller.new ≡ C.after_ack (C.after_sent (C.model controller.old) sent bytes number) time sent bytes false (estimate_of rtt.now) }
+    ensures totals { Delivered bytes (C.meaning (C.model controller.old)) (C.meaning (C.model controller.new)) }
+    ensures window { result ≡ (C.meaning (C.model controller.new)).window }
+    ensures floor { C.least * (C.meaning (C.model controller.old)).mtu ≤ result }
 {
     controller.on_sent(sent, bytes, number);
     controller.on_ack(time, sent, bytes, false, rtt);
@@ -29,10 +29,10 @@ pub fn exchange<C: Controller>(
 
 /// Tells of `bytes` sent at `sent` under `number` and found lost at `time`, and answers the window.
 pub fn loss<C: Controller>(controller: &mut C, sent: u64, time: u64, bytes: u64, number: u64) -> u64
-    ensures state { model controller.new ≡ afterLoss (afterSent (model controller.old) sent bytes number) time sent false bytes }
-    ensures totals { Wasted bytes (meaning (model controller.old)) (meaning (model controller.new)) }
-    ensures window { result ≡ (meaning (model controller.new)).window }
-    ensures floor { least * (meaning (model controller.old)).mtu ≤ result }
+    ensures state { C.model controller.new ≡ C.after_loss (C.after_sent (C.model controller.old) sent bytes number) time sent false bytes }
+    ensures totals { Wasted bytes (C.meaning (C.model controller.old)) (C.meaning (C.model controller.new)) }
+    ensures window { result ≡ (C.meaning (C.model controller.new)).window }
+    ensures floor { C.least * (C.meaning (C.model controller.old)).mtu ≤ result }
 {
     controller.on_sent(sent, bytes, number);
     controller.on_congestion_event(time, sent, false, bytes);
@@ -41,9 +41,9 @@ pub fn loss<C: Controller>(controller: &mut C, sent: u64, time: u64, bytes: u64,
 
 /// Tells of another MTU, and answers the bytes by which the window is above its floor then.
 pub fn resize<C: Controller>(controller: &mut C, new_mtu: Mtu) -> u64
-    ensures state { model controller.new ≡ afterMtu (model controller.old) new_mtu.value }
-    ensures meaning { meaning (model controller.new) ≡ told_mtu (meaning (model controller.old)) new_mtu.value (meaning (model controller.new)).window }
-    ensures above { least * new_mtu.value + result ≡ (meaning (model controller.new)).window }
+    ensures state { C.model controller.new ≡ C.after_mtu (C.model controller.old) new_mtu.value }
+    ensures meaning { C.meaning (C.model controller.new) ≡ told_mtu (C.meaning (C.model controller.old)) new_mtu.value (C.meaning (C.model controller.new)).window }
+    ensures above { C.least * new_mtu.value + result ≡ (C.meaning (C.model controller.new)).window }
 {
     controller.on_mtu_update(new_mtu);
     controller.window() - C::floor_datagrams() * new_mtu.get() as u64

@@ -1,4 +1,6 @@
 // Congestion control: what every controller offers, and the laws that code above one may use.
+#![tactic(auto)]
+
 pub mod controller;
 pub mod exchange;
 pub mod metrics;

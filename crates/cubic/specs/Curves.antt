@@ -9,7 +9,7 @@
 --
 -- The cube root is cut to a multiple of 2^-14 (the `numbers` crate says how), the cube is (d * d) * d, and in W_est the quotient is multiplied
 -- by t before it is divided by the round-trip time.
-use Rattle.std.specs.Prelude.{ℕ, ◌-◌, max, cond, pos, from_bits, nat_lt, Float}
+use Rattle.std.specs.Prelude.{ℕ, max, cond, pos, from_bits, nat_lt, Float}
 use Rattle.std.specs.Float.{binary64}
 use Rattle.std.specs.Float.Ieee.{of_int, add, sub, mul, div, lt, to_unsigned}
 use Rattle.values.specs.Saturating.{sum}

@@ -1,4 +1,6 @@
 // The CUBIC congestion controller.
+#![tactic(auto)]
+
 pub mod config;
 pub mod cubic;
 pub mod figures;

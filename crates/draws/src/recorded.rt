@@ -24,9 +24,9 @@ impl DrawSource for Recorded {
 
     ghost model = { recording_of };
 
-    ghost nextDraw = { recorded };
+    ghost next_draw = { recorded };
 
-    ghost afterDraw = { turned };
+    ghost after_draw = { turned };
 
     ghost few = { Prim.search rules };
 

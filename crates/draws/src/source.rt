@@ -6,14 +6,14 @@ pub trait DrawSource {
 
     ghost model: { Self → Model };
 
-    ghost nextDraw: { Model → ℕ };
+    ghost next_draw: { Model → ℕ };
 
-    ghost afterDraw: { Model → Model };
+    ghost after_draw: { Model → Model };
 
     // The next draw, 0 to 6.
     fn draw(&mut self) -> u8
-        ensures value { result ≡ nextDraw (model self.old) }
-        ensures after { model self.new ≡ afterDraw (model self.old) };
+        ensures value { result ≡ next_draw (model self.old) }
+        ensures after { model self.new ≡ after_draw (model self.old) };
 
-    ghost few: { (m : Model) → nextDraw m ≤ 6 };
+    ghost few: { (m : Model) → next_draw m ≤ 6 };
 }

@@ -33,9 +33,9 @@ impl DrawSource for Xorshift {
 
     ghost model = { λ x. x.state };
 
-    ghost nextDraw = { λ x. shifted x % 7 };
+    ghost next_draw = { λ x. shifted x % 7 };
 
-    ghost afterDraw = { shifted };
+    ghost after_draw = { shifted };
 
     ghost few = { Prim.search rules };
 

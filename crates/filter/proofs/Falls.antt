@@ -1,7 +1,7 @@
 -- An update keeps the samples in order and the first no less than what came, for every order that keeps the laws. Assumes nothing.
-use Rattle.std.proofs.Common.{◌≡◌, ℕ, ◌-◌, ◌/◌, Bool, true, false, cond, ◌&&◌, ◌||◌, eqb, ltb}
+use Rattle.std.proofs.Common.{◌≡◌, ◌-◌, ◌/◌, Bool, true, false, cond, ◌&&◌, eqb, ltb}
 use Rattle.std.proofs.lemmas.Bool.{cond_both, or_parts}
-use Rattle.filter.specs.Filter.{with_samples, filled, placed, aged, is_replaced, update_with, Falling}
+use Rattle.filter.specs.Filter.{with_samples, placed, aged, is_replaced, update_with, Falling}
 use Rattle.filter.specs.declared.min_max.MinMax.{MinMax}
 use Rattle.filter.specs.declared.min_max.MinMaxSample.{MinMaxSample}
 

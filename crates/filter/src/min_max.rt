@@ -26,8 +26,8 @@ const WINDOW: u64 = 10;
 impl<T: TotalOrder + Copy> MinMax<T> {
     // A filter over ten rounds that has seen nothing.
     pub fn new() -> MinMax<T>
-        ensures value { result ≡ fresh bottom }
-        ensures falls { Falling atMost result }
+        ensures value { result ≡ fresh T.bottom }
+        ensures falls { Falling T.at_most result }
     {
         let sample = MinMaxSample {
             time: 0,
@@ -72,8 +72,8 @@ impl<T: TotalOrder + Copy> MinMax<T> {
 
     // Forgets every sample.
     pub fn reset(&mut self)
-        ensures state { self.new ≡ emptied bottom self.old }
-        ensures falls { Falling atMost self.new }
+        ensures state { self.new ≡ emptied T.bottom self.old }
+        ensures falls { Falling T.at_most self.new }
     {
         self.fill(MinMaxSample {
             time: 0,
@@ -83,7 +83,7 @@ impl<T: TotalOrder + Copy> MinMax<T> {
 
     // Whether the sample takes every place: nothing was kept, or no value is greater, or all are out of the window.
     fn is_replaced_by(&self, sample: &MinMaxSample<T>) -> bool
-        ensures { result ≡ is_replaced atMost bottom self.now sample.now }
+        ensures { result ≡ is_replaced T.at_most T.bottom self.now sample.now }
     {
         let unset = self.first.value.at_most(&T::least());
         let beaten = self.first.value.at_most(&sample.value);
@@ -92,7 +92,7 @@ impl<T: TotalOrder + Copy> MinMax<T> {
     }
 
     fn place(&mut self, sample: MinMaxSample<T>)
-        ensures { self.new ≡ placed atMost self.old sample }
+        ensures { self.new ≡ placed T.at_most self.old sample }
     {
         if self.second.value.at_most(&sample.value) {
             self.second = sample;
@@ -126,9 +126,9 @@ impl<T: TotalOrder + Copy> MinMax<T> {
 
     // Takes a measurement of a round.
     pub fn update_max(&mut self, current_round: u64, measurement: T)
-        ensures step { self.new ≡ updated atMost bottom self.old current_round measurement }
-        ensures falls { Falling atMost self.old → Falling atMost self.new }
-        ensures covers { Falling atMost self.old → atMost measurement self.new.first.value ≡ true }
+        ensures step { self.new ≡ updated T.at_most T.bottom self.old current_round measurement }
+        ensures falls { Falling T.at_most self.old → Falling T.at_most self.new }
+        ensures covers { Falling T.at_most self.old → T.at_most measurement self.new.first.value ≡ true }
     {
         let sample = MinMaxSample {
             time: current_round,

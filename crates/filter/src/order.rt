@@ -4,7 +4,7 @@ ghost use Rattle.std.proofs.Common.{rules};
 
 // An order is known by its laws alone: the filter's proof uses nothing else of it.
 pub trait TotalOrder {
-    ghost atMost: { Self → Self → Bool };
+    ghost at_most: { Self → Self → Bool };
 
     ghost bottom: { Self };
 
@@ -12,19 +12,19 @@ pub trait TotalOrder {
         ensures { result ≡ bottom };
 
     fn at_most(&self, other: &Self) -> bool
-        ensures { result ≡ atMost self.now other.now };
+        ensures { result ≡ at_most self.now other.now };
 
-    ghost reflexive: { (x : Self) → atMost x x ≡ true };
+    ghost reflexive: { (x : Self) → at_most x x ≡ true };
 
-    ghost transitive: { (x y z : Self) → atMost x y ≡ true → atMost y z ≡ true → atMost x z ≡ true };
+    ghost transitive: { (x y z : Self) → at_most x y ≡ true → at_most y z ≡ true → at_most x z ≡ true };
 
-    ghost total: { (x y : Self) → atMost x y ≡ false → atMost y x ≡ true };
+    ghost total: { (x y : Self) → at_most x y ≡ false → at_most y x ≡ true };
 
-    ghost lowest: { (x : Self) → atMost bottom x ≡ true };
+    ghost lowest: { (x : Self) → at_most bottom x ≡ true };
 }
 
 impl TotalOrder for u64 {
-    ghost atMost = { nat_le };
+    ghost at_most = { nat_le };
 
     ghost bottom = { 0 };
 

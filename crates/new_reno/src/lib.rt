@@ -1,4 +1,6 @@
 // The NewReno congestion controller.
+#![tactic(auto)]
+
 pub mod config;
 pub mod figures;
 pub mod new_reno;

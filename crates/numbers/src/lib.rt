@@ -1,5 +1,7 @@
 // Casts between whole numbers and floats, durations in seconds, cubes and cube roots: each answer
 // exact, as its rule says.
+#![tactic(auto)]
+
 pub mod cast;
 pub mod duration;
 pub mod figures;

@@ -1,6 +1,6 @@
 -- What holds of a pacer after any calls. Assumes nothing.
 use Rattle.std.specs.Prelude.{ℕ, ◌*◌, ◌≤◌, Some, None, Ok, Err, Option, Result}
-use Rattle.refusals.specs.declared.NoPermit.{NoPermit}
+use Rattle.std.specs.declared.convert.Infallible.{Infallible as NoPermit}
 use Rattle.refusals.specs.declared.Refusal.{Refusal}
 use Rattle.pacing.specs.declared.pacer.Pacer.{Pacer}
 

@@ -10,7 +10,7 @@ use Rattle.std.specs.Float.{binary64}
 use Rattle.std.specs.Float.Ieee.{of_int, mul, div, to_unsigned}
 use Rattle.numbers.specs.Seconds.{in_seconds}
 use Rattle.refusals.specs.declared.Layer.TheVariants.{Pacer}
-use Rattle.refusals.specs.declared.NoPermit.{NoPermit}
+use Rattle.std.specs.declared.convert.Infallible.{Infallible as NoPermit}
 use Rattle.refusals.specs.declared.Refusal.{Refusal}
 use Rattle.refusals.specs.declared.Refusal.TheVariants.{OutsideLimit}
 use Rattle.values.specs.Saturating.{sum, product}

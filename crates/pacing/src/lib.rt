@@ -1,2 +1,4 @@
 // Pacing of transmissions.
+#![tactic(auto)]
+
 pub mod pacer;

@@ -1,7 +1,10 @@
 // What the layers refuse: twelve numbers and five layers, fixed by `specs/Refusals.antt`.
+#![tactic(auto)]
+
 ghost use Rattle.std.specs.Prelude.{◌≡◌, Some};
 ghost use Rattle.refusals.specs.Refusals.{number_of, layer_of, layer_name, refusal_text, permit_of};
 
+use std::convert::Infallible;
 use std::fmt;
 
 // The layer that refuses.
@@ -15,8 +18,7 @@ pub enum Layer {
 }
 
 // The permit of a call that is given none: it has no value.
-#[derive(Clone, Copy, Debug, PartialEq, Eq)]
-pub enum NoPermit {}
+pub type NoPermit = Infallible;
 
 // A refusal. `P` is the permit that `NotHeld` hands back, so a call that is given no permit never answers `NotHeld`.
 #[derive(Clone, Copy, Debug, PartialEq, Eq)]

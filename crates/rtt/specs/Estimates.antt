@@ -16,7 +16,7 @@ use Rattle.std.specs.Option.{unwrap_or}
 use Rattle.values.specs.Limits.{InRtt}
 use Rattle.values.specs.Saturating.{sum}
 use Rattle.refusals.specs.declared.Layer.TheVariants.{Estimator}
-use Rattle.refusals.specs.declared.NoPermit.{NoPermit}
+use Rattle.std.specs.declared.convert.Infallible.{Infallible as NoPermit}
 use Rattle.refusals.specs.declared.Refusal.{Refusal}
 use Rattle.refusals.specs.declared.Refusal.TheVariants.{OutsideLimit}
 use Rattle.rtt.specs.declared.estimator.RttEstimator.{RttEstimator}

@@ -1,6 +1,6 @@
 -- What an estimate says of all the samples that it was made from, whatever the ack delays. Assumes nothing.
 use Rattle.std.specs.Prelude.{◌≡◌, ℕ, ◌≤◌, min, max, List, [], ◌∷◌, None, Result, MatchOption, OnOk}
-use Rattle.refusals.specs.declared.NoPermit.{NoPermit}
+use Rattle.std.specs.declared.convert.Infallible.{Infallible as NoPermit}
 use Rattle.refusals.specs.declared.Refusal.{Refusal}
 use Rattle.rtt.specs.Estimates.{Estimate}
 

@@ -1,2 +1,4 @@
 // The round-trip time estimator of a path.
+#![tactic(auto)]
+
 pub mod estimator;

@@ -3,7 +3,7 @@ use Rattle.std.specs.Prelude.{◌≡◌, ℕ, Ok, Err, Result}
 use Rattle.values.specs.declared.mtu.Mtu.{Mtu}
 use Rattle.values.specs.declared.opening.Opening.{Opening}
 use Rattle.refusals.specs.declared.Layer.TheVariants.{Value}
-use Rattle.refusals.specs.declared.NoPermit.{NoPermit}
+use Rattle.std.specs.declared.convert.Infallible.{Infallible as NoPermit}
 use Rattle.refusals.specs.declared.Refusal.{Refusal}
 use Rattle.refusals.specs.declared.Refusal.TheVariants.{OutsideLimit}
 use Rattle.values.specs.declared.rtt.Rtt.{Rtt}

@@ -2,7 +2,7 @@
 ghost use Rattle.std.specs.Prelude.{◌≡◌, ◌*◌};
 ghost use Rattle.std.specs.Option.{unwrap_or};
 ghost use Rattle.cubic.specs.Steps.{CubicModel, cubic_model, cubic_meaning, cubic_metrics, opened, is_old, begun, advanced, reduced, collapsed, cubic_sent, cubic_ack, cubic_end, cubic_loss, cubic_mtu};
-ghost use Rattle.std.proofs.Common.{rules, arith};
+ghost use Rattle.std.proofs.Common.{rules};
 
 use crate::config::CubicConfig;
 use crate::cubic::curves::{converged_max, scaled_down};
@@ -136,31 +136,31 @@ impl Controller for Cubic {
 
     ghost initial = { λ x. x.initial };
 
-    ghost afterSent = { cubic_sent };
+    ghost after_sent = { cubic_sent };
 
-    ghost afterAck = { cubic_ack };
+    ghost after_ack = { cubic_ack };
 
-    ghost afterEnd = { cubic_end };
+    ghost after_end = { cubic_end };
 
-    ghost afterLoss = { cubic_loss };
+    ghost after_loss = { cubic_loss };
 
-    ghost afterMtu = { cubic_mtu };
+    ghost after_mtu = { cubic_mtu };
 
-    ghost small = { first_of (Prim.search rules, Prim.grind (arith, Self.row.coded.inj)) };
+    ghost small = { Prim.search rules };
 
-    ghost wide = { first_of (Prim.search rules, Prim.grind (arith, Self.row.coded.inj)) };
+    ghost wide = { Prim.search rules };
 
-    ghost shows = { first_of (Prim.search rules, Prim.grind (arith, Self.row.coded.inj)) };
+    ghost shows = { Prim.search rules };
 
-    ghost sends = { first_of (Prim.search rules, Prim.grind (arith, Self.row.coded.inj)) };
+    ghost sends = { Prim.search rules };
 
-    ghost acks = { first_of (Prim.search rules, Prim.grind (arith, Self.row.coded.inj)) };
+    ghost acks = { Prim.search rules };
 
-    ghost ends = { first_of (Prim.search rules, Prim.grind (arith, Self.row.coded.inj)) };
+    ghost ends = { Prim.search rules };
 
-    ghost loses = { first_of (Prim.search rules, Prim.grind (arith, Self.row.coded.inj)) };
+    ghost loses = { Prim.search rules };
 
-    ghost resizes = { first_of (Prim.search rules, Prim.grind (arith, Self.row.coded.inj)) };
+    ghost resizes = { Prim.search rules };
 
     fn floor_datagrams() -> u64 {
         Self::FLOOR

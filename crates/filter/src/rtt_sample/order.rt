@@ -1,23 +1,23 @@
 ghost use Rattle.std.specs.Prelude.{◌≡◌};
 ghost use Rattle.filter.specs.RttOrder.{no_faster, slowest};
-ghost use Rattle.std.proofs.Common.{rules, arith};
+ghost use Rattle.std.proofs.Common.{rules};
 
 use crate::order::TotalOrder;
 use crate::rtt_sample::RttSample;
 
 // The smaller round-trip time is the greater sample, so that the maximum is the fastest.
 impl TotalOrder for RttSample {
-    ghost atMost = { no_faster };
+    ghost at_most = { no_faster };
 
     ghost bottom = { slowest };
 
-    ghost reflexive = { first_of (Prim.search rules, Prim.grind (arith, Self.row.coded.inj)) };
+    ghost reflexive = { Prim.search rules };
 
-    ghost transitive = { first_of (Prim.search rules, Prim.grind (arith, Self.row.coded.inj)) };
+    ghost transitive = { Prim.search rules };
 
-    ghost total = { first_of (Prim.search rules, Prim.grind (arith, Self.row.coded.inj)) };
+    ghost total = { Prim.search rules };
 
-    ghost lowest = { first_of (Prim.search rules, Prim.grind (arith, Self.row.coded.inj)) };
+    ghost lowest = { Prim.search rules };
 
     fn least() -> RttSample {
         RttSample {

@@ -2,7 +2,7 @@
 ghost use Rattle.std.specs.Prelude.{◌≡◌, ◌*◌};
 ghost use Rattle.rtt.specs.Estimates.{estimate_of};
 ghost use Rattle.new_reno.specs.Steps.{RenoModel, reno_model, reno_meaning, reno_metrics, opened, reno_sent, reno_ack, reno_end, reno_loss, reno_mtu, CountsBytes};
-ghost use Rattle.std.proofs.Common.{rules, arith};
+ghost use Rattle.std.proofs.Common.{rules};
 
 use crate::config::NewRenoConfig;
 use crate::new_reno::NewReno;
@@ -66,31 +66,31 @@ impl Controller for NewReno {
 
     ghost initial = { λ x. x.initial };
 
-    ghost afterSent = { reno_sent };
+    ghost after_sent = { reno_sent };
 
-    ghost afterAck = { reno_ack };
+    ghost after_ack = { reno_ack };
 
-    ghost afterEnd = { reno_end };
+    ghost after_end = { reno_end };
 
-    ghost afterLoss = { reno_loss };
+    ghost after_loss = { reno_loss };
 
-    ghost afterMtu = { reno_mtu };
+    ghost after_mtu = { reno_mtu };
 
-    ghost small = { first_of (Prim.search rules, Prim.grind (arith, Self.row.coded.inj)) };
+    ghost small = { Prim.search rules };
 
-    ghost wide = { first_of (Prim.search rules, Prim.grind (arith, Self.row.coded.inj)) };
+    ghost wide = { Prim.search rules };
 
-    ghost shows = { first_of (Prim.search rules, Prim.grind (arith, Self.row.coded.inj)) };
+    ghost shows = { Prim.search rules };
 
-    ghost sends = { first_of (Prim.search rules, Prim.grind (arith, Self.row.coded.inj)) };
+    ghost sends = { Prim.search rules };
 
-    ghost acks = { first_of (Prim.search rules, Prim.grind (arith, Self.row.coded.inj)) };
+    ghost acks = { Prim.search rules };
 
-    ghost ends = { first_of (Prim.search rules, Prim.grind (arith, Self.row.coded.inj)) };
+    ghost ends = { Prim.search rules };
 
-    ghost loses = { first_of (Prim.search rules, Prim.grind (arith, Self.row.coded.inj)) };
+    ghost loses = { Prim.search rules };
 
-    ghost resizes = { first_of (Prim.search rules, Prim.grind (arith, Self.row.coded.inj)) };
+    ghost resizes = { Prim.search rules };
 
     fn floor_datagrams() -> u64 {
         Self::FLOOR

@@ -9,11 +9,11 @@ returns c =
     let once : RenoModel → RenoModel = λ x. reno_loss x 2 1 false 1200 in
     let twice : RenoModel → RenoModel = λ x. reno_loss (once x) 4 3 false 1200 in
     let window : RenoModel → ℕ = λ x. x.window in
-    let large = c.on-congestion-event.ensures ∙ ap once c.in-ok-large.ensures.1 in
+    let large = c.on_congestion_event.ensures ∙ ap once c.in_ok-large.ensures.1 in
     let small =
-    c.on-congestion-event-3.ensures
-    ∙ ap (λ (x : RenoModel). reno_loss x 4 3 false 1200) c.on-congestion-event-2.ensures
-    ∙ ap twice c.in-ok-small.ensures.1 in
+    c.on_congestion_event-3.ensures
+    ∙ ap (λ (x : RenoModel). reno_loss x 4 3 false 1200) c.on_congestion_event-2.ensures
+    ∙ ap twice c.in_ok-small.ensures.1 in
     let is-halved : c.window.result ≡ 6600 = c.window.ensures ∙ ap window large ∙ figures.halved in
     let is-floored : c.window-2.result ≡ 2400 =
     c.window-2.ensures ∙ ap window small ∙ ap (λ (w : ℕ). reduced w half 1200) figures.reached ∙ figures.floored in

@@ -3,8 +3,8 @@ use lib.Ieee.{binary64}
 use Rattle.numbers.proofs.Ties.{nearest_float, read_back, bits_no_nan, nearest_read}
 use Rattle.numbers.proofs.cast.f64_from_u64.Goals as goal
 
-pub float-from-bits-result : goal.float-from-bits-result
-float-from-bits-result c = bits_no_nan binary64 c.args.n (search rules) c.nearest_bits.result (c.nearest_bits.ensures binary64 refl refl)
+pub float_from_bits-result : goal.float_from_bits-result
+float_from_bits-result c = bits_no_nan binary64 c.args.n (search rules) c.nearest_bits.result (c.nearest_bits.ensures binary64 refl refl)
 
 pub returns-then-n-le9007199254740992 : goal.returns-then-n-le9007199254740992
 returns-then-n-le9007199254740992 c = record { is = refl; nearest = nearest_float binary64 c.args.n (search rules) }

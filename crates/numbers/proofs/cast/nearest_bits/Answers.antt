@@ -6,11 +6,11 @@ use Rattle.numbers.proofs.Closest.{closest_le}
 use Rattle.numbers.proofs.Leading.{zeros_few, shifted_closest, most, placed, placed_lt, nearest_bits}
 use Rattle.numbers.proofs.cast.nearest_bits.Goals as goal
 
-pub overflow-sub-exponent : goal.overflow-sub-exponent
-overflow-sub-exponent c = zeros_few c.args.digits c.args.n c.requires.3 (search rules)
+pub overflow_sub-exponent : goal.overflow_sub-exponent
+overflow_sub-exponent c = zeros_few c.args.digits c.args.n c.requires.3 (search rules)
 
-pub overflow-add-result : goal.overflow-add-result
-overflow-add-result c =
+pub overflow_add-result : goal.overflow_add-result
+overflow_add-result c =
     let p = c.args.digits in
     let n = c.args.n in
     let x = 64 - p - count_leading_zeros 64 n + c.args.lowest in

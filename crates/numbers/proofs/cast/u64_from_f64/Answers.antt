@@ -6,7 +6,7 @@ use Rattle.numbers.proofs.cast.u64_from_f64.Goals as goal
 
 reads : (c : goal.Else-x) → Reads 53 1074 (to_bits binary64 c.args.x) (to_unsigned 64 c.args.x)
 unfolding of_bits of_fields odd count_trailing_zeros
-reads c = bits_read binary64 c.args.x c.well-formed.0.1 c.if-not-x.false c.if-x.false
+reads c = bits_read binary64 c.args.x c.well_formed.0.1 c.if-not-x.false c.if-x.false
 
 pub returns-then-not-x : goal.returns-then-not-x
 unfolding of_bits of_fields odd count_trailing_zeros
@@ -16,11 +16,11 @@ pub returns-then-x : goal.returns-then-x
 unfolding of_bits of_fields odd count_trailing_zeros
 returns-then-x c = let e = sym (past_range c.args.x c.if-x.true) in record { is = e; whole = whole_of c.args.x _ e }
 
-pub overflow-sub-result : goal.overflow-sub-result
-overflow-sub-result c = (reads c).1
+pub overflow_sub-result : goal.overflow_sub-result
+overflow_sub-result c = (reads c).1
 
-pub overflow-shr-result-2 : goal.overflow-shr-result-2
-overflow-shr-result-2 c = let from = (reads c).0 in omega arith
+pub overflow_shr-result-2 : goal.overflow_shr-result-2
+overflow_shr-result-2 c = let from = (reads c).0 in omega arith
 
 pub returns : goal.returns
 returns c =

@@ -6,9 +6,9 @@ pub returns : goal.returns
 returns c =
     record {
       stand = figures;
-      below = c.through-f32.ensures ∙ figures.below;
-      above = c.through-f32-2.ensures ∙ figures.above;
-      eight = c.root-of.ensures ∙ figures.eight;
-      zero = c.root-of-2.ensures ∙ figures.zero;
-      limit = c.root-of-3.ensures ∙ figures.limit;
+      below = c.through_f32.ensures ∙ figures.below;
+      above = c.through_f32-2.ensures ∙ figures.above;
+      eight = c.root_of.ensures ∙ figures.eight;
+      zero = c.root_of-2.ensures ∙ figures.zero;
+      limit = c.root_of-3.ensures ∙ figures.limit;
     }

@@ -1,12 +1,12 @@
-use Rattle.std.proofs.Common.{◌≡◌, ℕ, ◌<◌, subst, arith}
+use Rattle.std.proofs.Common.{◌≡◌, ℕ, subst, arith}
 use Rattle.numbers.proofs.Cubes.{Way, starts, small, cube_fits, taken, left_out, ends}
 use Rattle.numbers.proofs.root.whole_cube_root.Goals as goal
 
 pub loop-k-init : goal.loop-k-init
 loop-k-init c = starts c.args.a
 
-pub overflow-mul-next-in-loop-k : goal.overflow-mul-next-in-loop-k
-overflow-mul-next-in-loop-k c = record { fits = cube_fits _ (small c.loop-k.k c.loop-k.root c.args.a c.loop-k-test.true c.loop-k.invariant) }
+pub overflow_mul-next-in-loop-k : goal.overflow_mul-next-in-loop-k
+overflow_mul-next-in-loop-k c = record { fits = cube_fits _ (small c.loop-k.k c.loop-k.root c.args.a c.loop-k-test.true c.loop-k.invariant) }
 
 pub loop-k-preserved-then-next-a : goal.loop-k-preserved-then-next-a
 loop-k-preserved-then-next-a c = taken c.loop-k.k c.loop-k.root c.args.a c.loop-k-test.true c.loop-k.invariant c.if-next-a.true

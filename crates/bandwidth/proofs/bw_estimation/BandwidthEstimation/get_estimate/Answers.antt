@@ -6,4 +6,4 @@ use Rattle.bandwidth.proofs.bw_estimation.BandwidthEstimation.get_estimate.Goals
 pub returns : goal.returns
 returns c =
     let is = c.get.ensures in
-    record { value = is; never-falls = λ calls. subst (λ (n : ℕ). n ≤ estimate (after calls c.args.self.now)) (sym is) (rises calls c.args.self.now) }
+    record { value = is; never_falls = λ calls. subst (λ (n : ℕ). n ≤ estimate (after calls c.args.self.now)) (sym is) (rises calls c.args.self.now) }
