@@ -75,8 +75,8 @@ pub fn compute() -> Worked
 
 // Where a connection that starts to cruise enters the cycle.
 fn entry_offset<D: DrawSource>(draws: &mut D) -> u8
-    ensures value { result ≡ offset_of (nextDraw (model draws.old)) }
-    ensures drawn { model draws.new ≡ afterDraw (model draws.old) }
+    ensures value { result ≡ offset_of (D.next_draw (D.model draws.old)) }
+    ensures drawn { D.model draws.new ≡ D.after_draw (D.model draws.old) }
 {
     let mut state = BbrState::new(240_000, 1_200);
     state.enter_probe_bandwidth_mode(0, draws);

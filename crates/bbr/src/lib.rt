@@ -1,4 +1,6 @@
 // The BBR congestion controller.
+#![tactic(auto)]
+
 pub mod bbr;
 pub mod config;
 pub mod figures;

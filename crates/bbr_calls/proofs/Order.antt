@@ -101,6 +101,12 @@ tail s time flight d limited starts false e =
 pub probes_law : (s : BbrState) (time flight d : ℕ) (limited starts : Bool) → Probes s.growth.is_at_full_bandwidth (is_expired s time limited) (is_done s time starts) s.phase.mode (probe_left (probe_entered s time limited) time starts flight d).phase.mode
 probes_law s time flight d limited starts = tail s time flight d limited starts (probes s time limited) refl
 
+-- of a state that is the one after
+pub probes_by : (s x : BbrState) (time flight d : ℕ) (limited starts : Bool) → x ≡ probe_left (probe_entered s time limited) time starts flight d → Probes s.growth.is_at_full_bandwidth (is_expired s time limited) (is_done s time starts) s.phase.mode x.phase.mode
+probes_by s x time flight d limited starts e =
+    subst (λ (y : BbrState). Probes s.growth.is_at_full_bandwidth (is_expired s time limited) (is_done s time starts) s.phase.mode y.phase.mode) (sym e)
+    (probes_law s time flight d limited starts)
+
 -- the gain cycle is within a mode
 mode_kept : (s : BbrState) (time flight : ℕ) → (gain_cycled s time flight).phase.mode ≡ s.phase.mode
 mode_kept s time flight =

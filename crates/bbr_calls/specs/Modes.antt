@@ -17,7 +17,7 @@ use Rattle.bbr_state.specs.declared.state.HighGains.{HighGains}
 use Rattle.bbr_state.specs.declared.state.Phase.{Phase}
 use Rattle.bbr_state.specs.declared.state.RttProbe.{RttProbe}
 use Rattle.bbr_state.specs.declared.state.Mode.{Mode}
-use Rattle.bbr_state.specs.declared.state.Mode.TheVariants.{Startup, Drain, ProbeBw, ProbeRtt}
+use Rattle.bbr_state.specs.declared.state.Mode.TheVariants.{Startup, Drain, ProbeRtt}
 
 -- a source after a draw, or as it was
 abbrev pub taken : {M : Type 0} → (M → M) → Bool → M → M

@@ -137,8 +137,8 @@ fn change_mode<D: DrawSource>(
     is_round_start: bool,
     draws: &mut D,
 )
-    ensures state { state.new ≡ moved nextDraw afterDraw state.old (model draws.old) time in_flight app_limited is_round_start }
-    ensures drawn { model draws.new ≡ left_draws nextDraw afterDraw state.old (model draws.old) time in_flight app_limited is_round_start }
+    ensures state { state.new ≡ moved D.next_draw D.after_draw state.old (D.model draws.old) time in_flight app_limited is_round_start }
+    ensures drawn { D.model draws.new ≡ left_draws D.next_draw D.after_draw state.old (D.model draws.old) time in_flight app_limited is_round_start }
 {
     maybe_exit_startup_or_drain(state, time, in_flight, draws);
     maybe_enter_or_exit_probe_rtt(state, time, is_round_start, in_flight, app_limited, draws);
@@ -175,8 +175,8 @@ pub fn on_end_acks<D: DrawSource>(
     largest_packet_num_acked: Option<u64>,
     draws: &mut D,
 )
-    ensures state { state.new ≡ ended nextDraw afterDraw state.old (model draws.old) time in_flight app_limited largest_packet_num_acked }
-    ensures drawn { model draws.new ≡ ended_draws nextDraw afterDraw state.old (model draws.old) time in_flight app_limited largest_packet_num_acked }
+    ensures state { state.new ≡ ended D.next_draw D.after_draw state.old (D.model draws.old) time in_flight app_limited largest_packet_num_acked }
+    ensures drawn { D.model draws.new ≡ ended_draws D.next_draw D.after_draw state.old (D.model draws.old) time in_flight app_limited largest_packet_num_acked }
     ensures kept { bandwidth state.new ≡ bandwidth state.old }
     ensures first { NeverProbed state.old → is_probe_rtt state.new.phase.mode ≡ not app_limited }
     ensures order { Follows state.new.growth.is_at_full_bandwidth (is_expired state.old time app_limited) state.old.rtt_probe.exit_probe_rtt_at time (batch_of state.old time largest_packet_num_acked).is_round_start state.old.phase.mode state.new.phase.mode }

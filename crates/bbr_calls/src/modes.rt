@@ -37,8 +37,8 @@ fn maybe_exit_startup(state: &mut BbrState)
 
 // From drain to cruising, when the queue is empty.
 fn maybe_exit_drain<D: DrawSource>(state: &mut BbrState, time: u64, in_flight: u64, draws: &mut D)
-    ensures state { state.new ≡ drain_left state.old time in_flight (nextDraw (model draws.old)) }
-    ensures drawn { model draws.new ≡ taken afterDraw (leaves_drain state.old in_flight) (model draws.old) }
+    ensures state { state.new ≡ drain_left state.old time in_flight (D.next_draw (D.model draws.old)) }
+    ensures drawn { D.model draws.new ≡ taken D.after_draw (leaves_drain state.old in_flight) (D.model draws.old) }
 {
     if state.phase.mode == Mode::Drain && in_flight <= state.get_target_cwnd(1.0) {
         state.enter_probe_bandwidth_mode(time, draws);
@@ -52,8 +52,8 @@ pub fn maybe_exit_startup_or_drain<D: DrawSource>(
     in_flight: u64,
     draws: &mut D,
 )
-    ensures state { state.new ≡ startup_left state.old time in_flight (nextDraw (model draws.old)) }
-    ensures drawn { model draws.new ≡ taken afterDraw (leaves_drain (drained state.old) in_flight) (model draws.old) }
+    ensures state { state.new ≡ startup_left state.old time in_flight (D.next_draw (D.model draws.old)) }
+    ensures drawn { D.model draws.new ≡ taken D.after_draw (leaves_drain (drained state.old) in_flight) (D.model draws.old) }
     ensures order { Leaves state.old.growth.is_at_full_bandwidth state.old.phase.mode state.new.phase.mode }
 {
     maybe_exit_startup(state);
@@ -93,8 +93,8 @@ fn maybe_exit_probe_rtt<D: DrawSource>(
     bytes_in_flight: u64,
     draws: &mut D,
 )
-    ensures state { state.new ≡ probe_left state.old time is_round_start bytes_in_flight (nextDraw (model draws.old)) }
-    ensures drawn { model draws.new ≡ taken afterDraw (resumes state.old time is_round_start) (model draws.old) }
+    ensures state { state.new ≡ probe_left state.old time is_round_start bytes_in_flight (D.next_draw (D.model draws.old)) }
+    ensures drawn { D.model draws.new ≡ taken D.after_draw (resumes state.old time is_round_start) (D.model draws.old) }
 {
     match (state.phase.mode, state.rtt_probe.exit_probe_rtt_at) {
         (Mode::ProbeRtt, None) => {
@@ -119,6 +119,7 @@ fn maybe_exit_probe_rtt<D: DrawSource>(
 }
 
 /// Measures the minimum RTT where the last measurement is too old, and stops when it is done.
+#[tactic(auto, using(crate::proofs::Order::probes_by))]
 pub fn maybe_enter_or_exit_probe_rtt<D: DrawSource>(
     state: &mut BbrState,
     time: u64,
@@ -127,8 +128,8 @@ pub fn maybe_enter_or_exit_probe_rtt<D: DrawSource>(
     app_limited: bool,
     draws: &mut D,
 )
-    ensures state { state.new ≡ probe_left (probe_entered state.old time app_limited) time is_round_start bytes_in_flight (nextDraw (model draws.old)) }
-    ensures drawn { model draws.new ≡ taken afterDraw (resumes (probe_entered state.old time app_limited) time is_round_start) (model draws.old) }
+    ensures state { state.new ≡ probe_left (probe_entered state.old time app_limited) time is_round_start bytes_in_flight (D.next_draw (D.model draws.old)) }
+    ensures drawn { D.model draws.new ≡ taken D.after_draw (resumes (probe_entered state.old time app_limited) time is_round_start) (D.model draws.old) }
     ensures order { Probes state.old.growth.is_at_full_bandwidth (is_expired state.old time app_limited) (is_done state.old time is_round_start) state.old.phase.mode state.new.phase.mode }
 {
     maybe_enter_probe_rtt(state, time, app_limited);

@@ -6,7 +6,7 @@
 --   not yet, where the gain is above 1, nothing was lost, and less was in flight at the last batch than the gain aims at;
 --   elsewhere, when more than the minimum RTT has gone by since it last did.
 -- A gain below 1 stays in force, while the offset moves on to a gain of 1, until no more is in flight than a gain of 1 aims at.
-use Rattle.std.specs.Prelude.{◌≡◌, ℕ, ◌+◌, ◌-◌, ◌%◌, ◌<◌, Bool, true, false, cond, not, ◌&&◌, Some, None, Option, ◌≢◌, nat_le, nat_lt, slice_index_or, Float}
+use Rattle.std.specs.Prelude.{ℕ, ◌+◌, ◌-◌, ◌%◌, ◌<◌, Bool, true, false, cond, not, ◌&&◌, Some, None, Option, ◌≢◌, nat_le, nat_lt, slice_index_or, Float}
 use Rattle.std.specs.Float.{nan}
 use Rattle.std.specs.Float.Ieee.{lt, eq}
 use Rattle.bbr_rounds.specs.Recovery.{is_lossy}

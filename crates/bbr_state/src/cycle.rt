@@ -21,8 +21,8 @@ fn pacing_gain_at(offset: u8) -> f32
 impl BbrState {
     /// Starts to cruise, at an offset of the cycle that is drawn out of 0 and 2 to 7.
     pub fn enter_probe_bandwidth_mode<D: DrawSource>(&mut self, time: u64, draws: &mut D)
-        ensures state { self.new ≡ cruised self.old time (nextDraw (model draws.old)) }
-        ensures drawn { model draws.new ≡ afterDraw (model draws.old) }
+        ensures state { self.new ≡ cruised self.old time (D.next_draw (D.model draws.old)) }
+        ensures drawn { D.model draws.new ≡ D.after_draw (D.model draws.old) }
         ensures offset { EntryOffset self.new.phase.current_cycle_offset }
     {
         self.phase.mode = Mode::ProbeBw;

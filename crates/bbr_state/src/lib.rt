@@ -1,4 +1,6 @@
 // BBR's state as plain data, with its targets, its rates and its cycle of gains.
+#![tactic(auto)]
+
 pub mod cycle;
 pub mod make;
 pub mod rates;

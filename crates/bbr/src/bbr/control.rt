@@ -2,7 +2,7 @@
 ghost use Rattle.std.specs.Prelude.{◌≡◌};
 ghost use Rattle.bbr.specs.Model.{BbrModel, bbr_model, bbr_meaning, bbr_metrics, opened_with, bbr_sent, bbr_ack, bbr_end, bbr_loss, bbr_mtu};
 ghost use Rattle.bbr.specs.Keeps.{wide_enough};
-ghost use Rattle.std.proofs.Common.{rules, arith};
+ghost use Rattle.std.proofs.Common.{rules};
 
 use crate::bbr::Bbr;
 use crate::config::BbrConfig;
@@ -18,7 +18,7 @@ use values::mtu::Mtu;
 impl<D: DrawSource> Bbr<D> {
     /// A controller that starts from `config`, with a source of draws.
     pub fn new(config: BbrConfig, current_mtu: Mtu, draws: D) -> Bbr<D>
-        ensures { bbr_model model result ≡ opened_with config.initial_window.bytes current_mtu.value (model draws) }
+        ensures { bbr_model D.model result ≡ opened_with config.initial_window.bytes current_mtu.value (D.model draws) }
     {
         Bbr {
             state: BbrState::new(config.initial_window(), current_mtu.get()),
@@ -38,7 +38,7 @@ impl<D: DrawSource> Bbr<D> {
 impl<D: DrawSource + Copy> Bbr<D> {
     /// The draw that the next start of the cycle takes.
     pub fn next_draw(&self) -> u8
-        ensures { result ≡ nextDraw (model self.now.draws) }
+        ensures { result ≡ D.next_draw (D.model self.now.draws) }
     {
         let mut draws = self.draws;
         draws.draw()
@@ -53,9 +53,9 @@ impl<D: DrawSource> Controller for Bbr<D> {
 
     ghost least = { 3 };
 
-    ghost Model = { BbrModel D.DrawSource.Model };
+    ghost Model = { BbrModel D.Model };
 
-    ghost model = { bbr_model D.DrawSource.model };
+    ghost model = { bbr_model D.model };
 
     ghost meaning = { bbr_meaning };
 
@@ -63,31 +63,31 @@ impl<D: DrawSource> Controller for Bbr<D> {
 
     ghost initial = { λ x. x.state.limits.initial_window };
 
-    ghost afterSent = { bbr_sent };
+    ghost after_sent = { bbr_sent };
 
-    ghost afterAck = { bbr_ack };
+    ghost after_ack = { bbr_ack };
 
-    ghost afterEnd = { bbr_end D.DrawSource.nextDraw D.DrawSource.afterDraw };
+    ghost after_end = { bbr_end D.next_draw D.after_draw };
 
-    ghost afterLoss = { bbr_loss };
+    ghost after_loss = { bbr_loss };
 
-    ghost afterMtu = { bbr_mtu };
+    ghost after_mtu = { bbr_mtu };
 
-    ghost small = { first_of (Prim.search rules, Prim.grind (arith, Self.row.coded.inj)) };
+    ghost small = { Prim.search rules };
 
     ghost wide = { λ x. wide_enough x.state x.limited x.wide x.held };
 
-    ghost shows = { first_of (Prim.search rules, Prim.grind (arith, Self.row.coded.inj)) };
+    ghost shows = { Prim.search rules };
 
-    ghost sends = { first_of (Prim.search rules, Prim.grind (arith, Self.row.coded.inj)) };
+    ghost sends = { Prim.search rules };
 
-    ghost acks = { first_of (Prim.search rules, Prim.grind (arith, Self.row.coded.inj)) };
+    ghost acks = { Prim.search rules };
 
-    ghost ends = { first_of (Prim.search rules, Prim.grind (arith, Self.row.coded.inj)) };
+    ghost ends = { Prim.search rules };
 
-    ghost loses = { first_of (Prim.search rules, Prim.grind (arith, Self.row.coded.inj)) };
+    ghost loses = { Prim.search rules };
 
-    ghost resizes = { first_of (Prim.search rules, Prim.grind (arith, Self.row.coded.inj)) };
+    ghost resizes = { Prim.search rules };
 
     fn floor_datagrams() -> u64 {
         LEAST_DATAGRAMS
