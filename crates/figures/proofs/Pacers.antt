@@ -1,5 +1,5 @@
 -- The pacer's figure, by computation. Assumes nothing.
-use Rattle.std.proofs.Common.{◌≡◌, ℕ, suc, ◌+◌, Some, Ok, Option, sym, refl, ap, ◌∙◌, add-one}
+use Rattle.std.proofs.Common.{◌≡◌, ℕ, ◌+◌, Some, Ok, Option, sym, refl, ap, ◌∙◌, add-one}
 use lib.Count.{count_trailing_zeros}
 use lib.Ieee.{of_int, of_bits, of_fields, odd, add, sum, mul, div, to_unsigned, round, units, size, span, climb}
 use Rattle.pacing.specs.declared.pacer.Pacer.{Pacer}

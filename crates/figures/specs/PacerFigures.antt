@@ -2,7 +2,7 @@
 -- 1,200, the least that it may. The eleventh waits until the bucket is full again: 12,000 bytes at 5/4 of 240,000 in
 -- 100 ms take 4 ms. Assumes nothing.
 use Rattle.std.specs.Prelude.{◌≡◌, ℕ, zero, suc, Some, Ok, Option, Result}
-use Rattle.refusals.specs.declared.NoPermit.{NoPermit}
+use Rattle.std.specs.declared.convert.Infallible.{Infallible as NoPermit}
 use Rattle.refusals.specs.declared.Refusal.{Refusal}
 use Rattle.pacing.specs.Pacing.{opened, sent, delayed, told}
 use Rattle.pacing.specs.declared.pacer.Pacer.{Pacer}

@@ -2,7 +2,7 @@
 use Rattle.std.proofs.Common.{◌≡◌, ℕ, suc, ◌+◌, ◌-◌, ◌<◌, ◌≤◌, Bool, true, false, cond, ◌&&◌, eqb, List, [], ◌∷◌, length, get_or, take, drop, Some, None, Ok, Err, Result, sym, refl, ap, ◌∙◌, subst, arith}
 use Rattle.std.proofs.lemmas.List.{at_drop_more, at_drop_all, drop_all, take_all, take_rest}
 use Rattle.std.proofs.lemmas.Bool.{both_ways, cond-true, cond-false, ne_eqb}
-use Rattle.measurements.specs.Lines.{before, is_blank, all_blank, unreturned, put_first, lines_in, cut_line, with_delay, with_rtt, measured}
+use Rattle.measurements.specs.Lines.{before, is_blank_byte, all_blank, unreturned, put_first, lines_in, cut_line, with_delay, with_rtt, measured}
 use Rattle.measurements.specs.Numbers.{number_in}
 use Rattle.measurements.specs.declared.line.LineFault.TheVariants.{NoSpace}
 use Rattle.measurements.specs.declared.number.NumberFault.{NumberFault}
@@ -27,13 +27,13 @@ module _ (stop : ℕ) (bs : List ℕ) (i : ℕ) (inv : i + before stop (drop i b
       omega arith
 
 module _ (bs : List ℕ) (i : ℕ) (inv : all_blank (drop i bs) ≡ all_blank bs) where
-  at : i < length bs → all_blank (drop i bs) ≡ is_blank (get_or bs i 0) && all_blank (drop (i + 1) bs)
+  at : i < length bs → all_blank (drop i bs) ≡ is_blank_byte (get_or bs i 0) && all_blank (drop (i + 1) bs)
   at lt = at_drop_more all_blank bs i 0 lt
 
-  pub other : i < length bs → is_blank (get_or bs i 0) ≡ false → false ≡ all_blank bs
+  pub other : i < length bs → is_blank_byte (get_or bs i 0) ≡ false → false ≡ all_blank bs
   other lt dark = sym (at lt ∙ ap (λ b. b && all_blank (drop (i + 1) bs)) dark) ∙ inv
 
-  pub blank_more : i < length bs → is_blank (get_or bs i 0) ≡ true → all_blank (drop (i + 1) bs) ≡ all_blank bs
+  pub blank_more : i < length bs → is_blank_byte (get_or bs i 0) ≡ true → all_blank (drop (i + 1) bs) ≡ all_blank bs
   blank_more lt is = sym (at lt ∙ ap (λ b. b && all_blank (drop (i + 1) bs)) is) ∙ inv
 
   pub blank_all : length bs ≤ i → true ≡ all_blank bs

@@ -35,12 +35,12 @@ abbrev pub unreturned : List ℕ → List ℕ
 unreturned bs = cond (slice_index bs (length bs - 1) == 13) (take (length bs - 1) bs) bs
 
 -- a space or a tab
-abbrev pub is_blank : ℕ → Bool
-is_blank b = b == 32 || b == 9
+abbrev pub is_blank_byte : ℕ → Bool
+is_blank_byte b = b == 32 || b == 9
 
 abbrev pub all_blank : List ℕ → Bool
 all_blank [] = true
-all_blank (b ∷ bs) = is_blank b && all_blank bs
+all_blank (b ∷ bs) = is_blank_byte b && all_blank bs
 
 abbrev pub with_delay : ℕ → Result ℕ NumberFault → Result Measurement LineFault
 with_delay rtt (Ok delay) = Ok (record { rtt = rtt; ack_delay = delay })

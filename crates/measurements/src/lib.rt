@@ -1,4 +1,6 @@
 // Measurements of round-trip times as text, a line each.
+#![tactic(auto)]
+
 pub mod faults;
 pub mod line;
 pub mod number;

@@ -1,8 +1,9 @@
 // Parts of a line.
 ghost use Rattle.std.specs.Prelude.{◌≡◌, ◌≤◌, length};
-ghost use Rattle.measurements.specs.Lines.{before, unreturned, is_blank, all_blank};
+ghost use Rattle.measurements.specs.Lines.{before, unreturned, is_blank_byte, all_blank};
 
 // How many bytes stand before the first `stop`: all of them where there is none.
+#[tactic(auto, using(crate::proofs::Walks::found, crate::proofs::Walks::passed, crate::proofs::Walks::missing))]
 pub fn place_of(bytes: &[u8], stop: u8) -> usize
     ensures value { result ≡ before stop bytes.now }
     ensures within { result ≤ length bytes.now }
@@ -16,12 +17,13 @@ pub fn place_of(bytes: &[u8], stop: u8) -> usize
 }
 
 fn is_space(byte: u8) -> bool
-    ensures { result ≡ is_blank byte }
+    ensures { result ≡ is_blank_byte byte }
 {
     byte == b' ' || byte == b'\t'
 }
 
 // Whether a line has nothing but spaces and tabs.
+#[tactic(auto, using(crate::proofs::Walks::other, crate::proofs::Walks::blank_more, crate::proofs::Walks::blank_all))]
 pub fn is_blank(line: &[u8]) -> bool
     ensures { result ≡ all_blank line.now }
 {

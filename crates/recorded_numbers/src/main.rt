@@ -1,5 +1,7 @@
 // Recorded calls, answered again: a call on each line of the input, its answer on each line of the
 // output. A float is written by its bits.
+#![tactic(auto)]
+
 use anyhow::anyhow;
 use numbers::{cube, cube_root, f32_from_u64, f64_from_u64, seconds, u64_from_f32, u64_from_f64};
 use std::fmt;

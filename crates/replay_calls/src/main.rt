@@ -1,6 +1,8 @@
 // Replays recorded calls: a call on each line of the input, and on each line of the output the state after it and its
 // answer, if it has one. A line `module NAME` says whose calls follow; each sequence of calls starts with `new`.
-mod bbr_calls;
+#![tactic(auto)]
+
+mod bbr_controller_calls;
 mod bw_calls;
 mod call;
 mod controller_calls;
@@ -8,7 +10,7 @@ mod min_max_calls;
 mod pacer_calls;
 mod rtt_calls;
 
-use crate::bbr_calls::BbrSubject;
+use crate::bbr_controller_calls::BbrSubject;
 use crate::bw_calls::BandwidthState;
 use crate::call::{Call, OrNone, parse};
 use crate::controller_calls::Controlled;
@@ -70,7 +72,7 @@ fn made(module: Module, call: &Call) -> anyhow::Result<Subject> {
         Module::Pacer => Ok(Subject::Pacer(pacer_calls::make(call)?)),
         Module::NewReno => Ok(Subject::NewReno(controller_calls::new_reno(call)?)),
         Module::Cubic => Ok(Subject::Cubic(controller_calls::cubic(call)?)),
-        Module::Bbr => Ok(Subject::Bbr(bbr_calls::make(call)?)),
+        Module::Bbr => Ok(Subject::Bbr(bbr_controller_calls::make(call)?)),
     }
 }
 
@@ -101,7 +103,12 @@ fn performed(subject: Subject, call: &Call) -> anyhow::Result<(Subject, Option<O
             controller_calls::perform(&mut controlled, call)?;
             Ok((Subject::Cubic(controlled), None))
         }
-        Subject::Bbr(subject) => { Ok((Subject::Bbr(bbr_calls::performed(subject, call)?), None)) }
+        Subject::Bbr(subject) => {
+            Ok((
+                Subject::Bbr(bbr_controller_calls::performed(subject, call)?),
+                None,
+            ))
+        }
     }
 }
 

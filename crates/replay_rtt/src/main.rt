@@ -1,4 +1,6 @@
 // Replays the round-trip times that standard input holds, and prints the estimate after each.
+#![tactic(auto)]
+
 use rtt_report::report::replay;
 use std::io;
 use std::io::Read;

@@ -1,5 +1,7 @@
 // Replays the log on standard input through the controller that the argument names, and prints each line with the
 // window and the threshold after it.
+#![tactic(auto)]
+
 use bbr::bbr::Bbr;
 use bbr::config::BbrConfig;
 use cubic::config::CubicConfig;

@@ -1,5 +1,5 @@
 -- One line more of a report. Assumes nothing.
-use Rattle.std.proofs.Common.{◌≡◌, ℕ, List, [], ◌∷◌, ◌++◌, sym, refl, ap, ◌∙◌, append_assoc}
+use Rattle.std.proofs.Common.{◌≡◌, ℕ, List, [], ◌∷◌, ◌++◌, sym, ap, ◌∙◌, append_assoc}
 use Rattle.measurements.specs.Lines.{lines_in, line_in}
 use Rattle.rtt_report.specs.Reports.{outcome_text, summary_text, report_from}
 use Rattle.rtt_report.specs.Sessions.{Progress, outcome, next}

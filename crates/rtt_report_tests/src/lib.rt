@@ -1,28 +1,31 @@
 // What the report says of small and odd inputs.
+#![tactic(auto)]
+
 #[cfg(test)]
 mod tests {
     use rtt_report::report::replay;
-    use std::test::*;
+    use std::process::Abort;
+    use std::test::Fail;
     use values::rtt::Rtt;
 
-    fn reports(rt: HostRuntime, input: &[u8], expected: &str) -> Result<(), Fail> {
+    fn reports(rt: &(impl Abort + AllocGlobal), input: &[u8], expected: &str) -> Result<(), Fail> {
         let Ok(initial_rtt) = Rtt::new(100_000_000) else {
             return Err(Fail::new("100 ms are within the limits"));
         };
         let report = replay(rt.alloc(), initial_rtt, input)?;
-        assert_eq!(report.as_str(), expected);
+        assert_eq!(rt; report.as_str(), expected);
         Ok(())
     }
 
     #[test]
     fn an_empty_input(rt: HostRuntime) -> Result<(), Fail> {
-        reports(rt, b"", "taken 0 refused 0 unreadable 0\n")
+        reports(&rt, b"", "taken 0 refused 0 unreadable 0\n")
     }
 
     #[test]
     fn a_missing_last_newline(rt: HostRuntime) -> Result<(), Fail> {
         reports(
-            rt,
+            &rt,
             b"2000 0",
             "0 2000 1000 2000 1002000\ntaken 1 refused 0 unreadable 0\n",
         )
@@ -31,7 +34,7 @@ mod tests {
     #[test]
     fn carriage_returns(rt: HostRuntime) -> Result<(), Fail> {
         reports(
-            rt,
+            &rt,
             b"2000 0\r\n\r\n \t\r\n#\r\n\r",
             "0 2000 1000 2000 1002000\ntaken 1 refused 0 unreadable 0\n",
         )
@@ -40,7 +43,7 @@ mod tests {
     #[test]
     fn bytes_that_are_no_text(rt: HostRuntime) -> Result<(), Fail> {
         reports(
-            rt,
+            &rt,
             b"\xff\xfe 0\n\x00\n1 0\n",
             "line 1: RTT is not a decimal number\nline 2: no space between RTT and DELAY\n0 r1 estimator\ntaken 0 refused 1 unreadable 2\n",
         )
@@ -53,13 +56,13 @@ mod tests {
             input.push(b'9')?;
         }
         reports(
-            rt,
+            &rt,
             input.as_slice(),
             "line 1: no space between RTT and DELAY\ntaken 0 refused 0 unreadable 1\n",
         )?;
         input.extend_from_slice(b" 0\n2000 ")?;
         reports(
-            rt,
+            &rt,
             input.as_slice(),
             "line 1: RTT is above 18446744073709551615\nline 2: DELAY is missing\ntaken 0 refused 0 unreadable 2\n",
         )

@@ -5,7 +5,7 @@
 use Rattle.std.specs.Prelude.{ℕ, Bool, false, cond, ◌&&◌, None, Ok, Err, Option, Result, nat_le}
 use Rattle.rtt.specs.Estimates.{Estimate}
 use Rattle.refusals.specs.declared.Layer.TheVariants.{Value}
-use Rattle.refusals.specs.declared.NoPermit.{NoPermit}
+use Rattle.std.specs.declared.convert.Infallible.{Infallible as NoPermit}
 use Rattle.refusals.specs.declared.Refusal.{Refusal}
 use Rattle.refusals.specs.declared.Refusal.TheVariants.{OutsideLimit}
 use Rattle.window_log.specs.declared.event.Event.{Event}

@@ -7,7 +7,7 @@ use Rattle.std.specs.Prelude.{ℕ, ◌-◌, min, max, Ok, Err, Result}
 use Rattle.values.specs.Saturating.{sum}
 use Rattle.rtt.specs.Estimates as estimates
 use Rattle.rtt.specs.Estimates.{Estimate, estimate_of, updated}
-use Rattle.refusals.specs.declared.NoPermit.{NoPermit}
+use Rattle.std.specs.declared.convert.Infallible.{Infallible as NoPermit}
 use Rattle.refusals.specs.declared.Refusal.{Refusal}
 use Rattle.new_reno.specs.Steps.{RenoModel, reno_model, reno_sent, reno_ack, reno_end, reno_loss, reno_mtu}
 use Rattle.cubic.specs.Steps.{CubicModel, cubic_model, cubic_sent, cubic_ack, cubic_end, cubic_loss, cubic_mtu}

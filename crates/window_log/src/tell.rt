@@ -29,7 +29,7 @@ pub fn tell<C: Controller>(
     rtt: &RttEstimator,
 ) -> Result<(), Refusal>
     ensures answer { result ≡ answer event }
-    ensures state { model controller.new ≡ told afterSent afterAck afterEnd afterLoss afterMtu (model controller.old) event number in_flight (estimate_of rtt.now) }
+    ensures state { C.model controller.new ≡ told C.after_sent C.after_ack C.after_end C.after_loss C.after_mtu (C.model controller.old) event number in_flight (estimate_of rtt.now) }
 {
     match event {
         Event::Sent { bytes, time } => controller.on_sent(time, bytes, number),

@@ -1,4 +1,6 @@
 // What the report says of small and odd logs.
+#![tactic(auto)]
+
 #[cfg(test)]
 mod tests {
     use bbr::bbr::Bbr;
@@ -8,7 +10,8 @@ mod tests {
     use draws::recorded::Recorded;
     use new_reno::config::NewRenoConfig;
     use new_reno::new_reno::NewReno;
-    use std::test::*;
+    use std::process::Abort;
+    use std::test::Fail;
     use values::mtu::Mtu;
     use values::rtt::Rtt;
     use window_log::report::replay;
@@ -34,30 +37,35 @@ mod tests {
         Ok(Control::Bbr(Bbr::new(BbrConfig::default(), mtu()?, draws)))
     }
 
-    fn reports(rt: HostRuntime, control: Control, log: &[u8], expected: &[u8]) -> Result<(), Fail> {
+    fn reports(
+        rt: &(impl Abort + AllocGlobal),
+        control: Control,
+        log: &[u8],
+        expected: &[u8],
+    ) -> Result<(), Fail> {
         let Ok(initial_rtt) = Rtt::new(100_000_000) else {
             return Err(Fail::new("100 ms are within the limits"));
         };
         let report = replay(rt.alloc(), control, initial_rtt, log)?;
-        assert_eq!(report.as_slice(), expected);
+        assert_eq!(rt; report.as_slice(), expected);
         Ok(())
     }
 
     #[test]
     fn an_empty_log(rt: HostRuntime) -> Result<(), Fail> {
-        reports(rt, new_reno()?, b"", b"")
+        reports(&rt, new_reno()?, b"", b"")
     }
 
     #[test]
     fn nothing_but_comments(rt: HostRuntime) -> Result<(), Fail> {
-        reports(rt, cubic()?, b"# sent 1 1\r\n\n \t\n\r", b"")
+        reports(&rt, cubic()?, b"# sent 1 1\r\n\n \t\n\r", b"")
     }
 
     // Persistent congestion cuts the threshold twice: 12,000 to 8,400 to 5,880.
     #[test]
     fn cubic_persistent_congestion(rt: HostRuntime) -> Result<(), Fail> {
         reports(
-            rt,
+            &rt,
             cubic()?,
             b"lost 1200 1000000 10000000 persistent\r\n",
             b"lost 1200 1000000 10000000 persistent: 2400 5880\n",
@@ -68,7 +76,7 @@ mod tests {
     #[test]
     fn cubic_tcp_friendly_region(rt: HostRuntime) -> Result<(), Fail> {
         reports(
-            rt,
+            &rt,
             cubic()?,
             b"lost 1200 1000000 10000000\nack 1200 60000000 110000000\nack 1200 960000000 1010000000",
             b"lost 1200 1000000 10000000: 8400 8400\nack 1200 60000000 110000000: 9600 8400\nack 1200 960000000 1010000000: 10800 8400\n",
@@ -80,7 +88,7 @@ mod tests {
     #[test]
     fn bbr_probes_the_round_trip_time(rt: HostRuntime) -> Result<(), Fail> {
         reports(
-            rt,
+            &rt,
             bbr()?,
             b"sent 1200 1000000\nsent 1200 1000000\nack 1200 1000000 50000000\nack 1200 1000000 51000000\nend 51000000\nmtu 1500\n",
             b"sent 1200 1000000: 240000 none\nsent 1200 1000000: 240000 none\nack 1200 1000000 50000000: 240000 none\nack 1200 1000000 51000000: 240000 none\nend 51000000: 44100 none\nmtu 1500: 44100 none\n",
@@ -92,7 +100,7 @@ mod tests {
     #[test]
     fn bbr_goes_on_where_the_product_stops(rt: HostRuntime) -> Result<(), Fail> {
         reports(
-            rt,
+            &rt,
             bbr()?,
             b"sent 1200 1000000\nsent 1200 1000000\nack 1200 1000000 50000000\nack 1200 1000000 50000001\nend 50000001\nend 15422287001\n",
             b"sent 1200 1000000: 240000 none\nsent 1200 1000000: 240000 none\nack 1200 1000000 50000000: 240000 none\nack 1200 1000000 50000001: 240000 none\nend 50000001: 44100000000 none\nend 15422287001: 44100000000 none\n",
@@ -102,7 +110,7 @@ mod tests {
     #[test]
     fn bytes_that_are_no_text(rt: HostRuntime) -> Result<(), Fail> {
         reports(
-            rt,
+            &rt,
             new_reno()?,
             b"\xff\xfe\nsent 99999999999999999999 1\nack 1 2 3 late\nend x\n",
             b"\xff\xfe: no such event\nsent 99999999999999999999 1: SIZE is above 18446744073709551615\nack 1 2 3 late: no such flag\nend x: TIME is not a decimal number\n",

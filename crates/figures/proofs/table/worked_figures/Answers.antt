@@ -23,16 +23,16 @@ returns c =
             above = c.compute.ensures.above;
             eight = c.compute.ensures.eight;
             zero = c.compute.ensures.zero;
-            round_11 = c.choices-after.ensures;
-            round_12 = c.choices-after-2.ensures;
-            eleventh = eleventh_time _ c.in-ok-told-after.ensures;
+            round_11 = c.choices_after.ensures;
+            round_12 = c.choices_after-2.ensures;
+            eleventh = eleventh_time _ c.in_ok-told_after.ensures;
             halved = search rules;
             floored = search rules;
             target = c.compute-3.ensures.target;
             held = c.compute-3.ensures.held;
             explained = c.compute-3.ensures.explained;
             ahead = c.compute-3.ensures.ahead;
-            offsets = c.entry-offsets.ensures;
+            offsets = c.entry_offsets.ensures;
             limit = c.compute.ensures.limit;
           };
     }
