@@ -1,29 +1,26 @@
 -- A purse of one place holds only what the path holds. Assumes nothing.
-use Rattle.std.proofs.Common.{◌≡◌, ℕ, ◌%◌, ◌<◌, ◌≤◌, Bool, true, false, cond, not, ◌&&◌, ltb, length, get_or, set, is_some, Some, None, Ok, Err, Option, sym, refl, ap, ◌∙◌, subst, ⊎_elim, arith, get_or-set_other, get_or-set_same}
+use Rattle.std.proofs.Common.{◌≡◌, ℕ, ◌%◌, ◌<◌, ◌≤◌, Bool, true, false, cond, not, ltb, length, get_or, set, is_some, Some, None, Ok, Err, Option, sym, refl, ap, ◌∙◌, subst, ⊎_elim, arith, get_or-set_other, get_or-set_same}
 use Rattle.std.specs.Option.{option_map}
 use Rattle.std.proofs.lemmas.List.{get_or_past}
-use Rattle.std.proofs.lemmas.Bool.{cases_Bool, cases_eq, cases_lt, both_ways, and_parts, ltb-true, not-true}
+use Rattle.std.proofs.lemmas.Bool.{cases_lt, both_ways, and_parts, ltb-true, not-true}
 use Rattle.cells.specs.Sound.{Sound}
 use Rattle.cells.specs.Tables.{Checked, cell_of, is_held, held_as, with_held, landing, in_time, at_time, counted_if, one_acknowledged, one_lost, admitted}
-use Rattle.cells.specs.declared.table.Cell.{Cell}
-use Rattle.cells.specs.declared.table.Cell.TheVariants.{Free, Held, InFlight}
+use Rattle.cells.specs.declared.table.Cell.TheVariants.{Free, InFlight}
 use Rattle.cells.specs.declared.table.CellTable.{CellTable}
 use Rattle.cells.specs.declared.table.Counts.{Counts}
 use Rattle.cells.specs.declared.table.Datagram.{Datagram}
-use Rattle.cells.proofs.Says.{held_next, held_says, landing_says}
+use Rattle.cells.proofs.Says.{held_next, landing_says}
 use Rattle.path.specs.Paths.{PathState, pace, permitted}
 use Rattle.path.specs.Paths as paths
 use Rattle.path.specs.declared.permit.Permit.{Permit}
-use Rattle.book.specs.declared.call.Answer.{Answer}
 use Rattle.book.specs.declared.call.Call.{Call}
 use Rattle.book.specs.declared.call.Call.TheVariants.{Grant, Transmit, Withdraw, Tell}
 use Rattle.book.specs.declared.call.Event.{Event}
 use Rattle.book.specs.declared.call.Event.TheVariants.{Ack, End, Lose, SetMtu}
-use Rattle.book.specs.declared.call.Label.{Label}
 use Rattle.book.specs.declared.call.Request.TheVariants.{NoCall as Nothing, Grant as Grants}
 use Rattle.book.specs.Requests.{Rules, window, said_permit, said_held, label_of}
 use Rattle.book.specs.Requests as requests
-use Rattle.book.specs.Settings.{Purse, Setting, has_room, request_of, transmit_of, withdraw_of, stored, spent, next, Backed}
+use Rattle.book.specs.Settings.{Purse, Setting, has_room, transmit_of, withdraw_of, stored, spent, next, Backed}
 
 -- an empty place backs anything
 pub empty_backed : (b : CellTable) (purse : Purse) → get_or purse 0 None ≡ None → Backed b purse

@@ -1,8 +1,8 @@
 -- Where book and table agree, they make the same checks. Assumes nothing.
-use Rattle.std.proofs.Common.{◌≡◌, ℕ, ◌+◌, ◌%◌, ◌<◌, ◌≤◌, Bool, true, false, cond, not, ◌||◌, eqb, ltb, is_some, Ok, Err, sym, refl, ap, ◌∙◌, arith}
+use Rattle.std.proofs.Common.{◌≡◌, ℕ, ◌+◌, ◌%◌, ◌<◌, ◌≤◌, Bool, true, false, cond, not, ◌||◌, eqb, ltb, is_some, Ok, Err, refl, ap, ◌∙◌, arith}
 use Rattle.std.proofs.lemmas.Bool.{or_parts, ltb-false, ltb-true}
 use Rattle.refusals.specs.Refusals.{number_of}
-use Rattle.refusals.specs.declared.NoPermit.{NoPermit}
+use Rattle.std.specs.declared.convert.Infallible.{Infallible as NoPermit}
 use Rattle.refusals.specs.declared.Refusal.{Refusal}
 use Rattle.refusals.specs.declared.Refusal.TheVariants.{Size, Time, Held, NumbersExhausted, CellTaken, Window, NotInFlight}
 use Rattle.cells.specs.Tables.{Checked, is_taken, cell_of, untimely, in_time, admitted, landing, in_flight_as}
@@ -10,7 +10,7 @@ use Rattle.cells.specs.Tables as tables
 use Rattle.cells.specs.declared.table.CellTable.{CellTable}
 use Rattle.cells.specs.declared.table.Datagram.{Datagram}
 use Rattle.path.specs.Paths.{answered}
-use Rattle.book.specs.Book.{Book, held, count_in, takes_cell, find, grant_check, holds, is_in_flight, time_check, flight_check}
+use Rattle.book.specs.Book.{Book, held, takes_cell, find, grant_check, holds, is_in_flight, time_check, flight_check}
 use Rattle.book.specs.Agreement.{Agrees}
 use Rattle.book.proofs.Cells.{held_agree, flight_agree, taken_is}
 

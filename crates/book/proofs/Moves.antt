@@ -1,6 +1,5 @@
 -- Each step of a table is the book's step. Assumes nothing.
-use Rattle.std.proofs.Common.{◌≡◌, ℕ, ◌+◌, ◌-◌, ◌*◌, ◌%◌, ◌<◌, ◌≤◌, List, ◌∷◌, length, get_or, set, Some, None, Ok, Option, sym, refl, ap, ◌∙◌, subst, arith}
-use Rattle.std.proofs.lemmas.Bool.{eq-eqb}
+use Rattle.std.proofs.Common.{◌≡◌, ℕ, ◌+◌, ◌*◌, ◌%◌, ◌<◌, ◌≤◌, ◌∷◌, length, get_or, set, Some, None, Ok, sym, refl, ap, ◌∙◌, subst, arith}
 use Rattle.values.specs.declared.mtu.Mtu.{Mtu}
 use Rattle.cells.specs.Sound.{Sound}
 use Rattle.cells.specs.Tables.{cell_of, with_held, transmitted_if, withdrawn_if, freed, counted_if, one_acknowledged, one_lost}
@@ -11,7 +10,7 @@ use Rattle.cells.specs.declared.table.CellTable.{CellTable}
 use Rattle.cells.specs.declared.table.Counts.{Counts}
 use Rattle.cells.specs.declared.table.Datagram.{Datagram}
 use Rattle.cells.proofs.Kept.{held_enough, in_flight_enough}
-use Rattle.book.specs.Book.{Place, Entry, Book, held, in_flight, acknowledged, lost, withdrawn, same, count_in, bytes_in, find, moved_to, move, entered, at_time, with_mtu, put}
+use Rattle.book.specs.Book.{Place, Entry, Book, held, in_flight, acknowledged, lost, withdrawn, same, find, move, entered, at_time, with_mtu, put}
 use Rattle.book.specs.Agreement.{entry_of, says, out, Own, Numbered, count_of, Agrees}
 use Rattle.book.proofs.Entries.{find_head, find_tail, find_move_other, find_move_same, count_move, bytes_move, numbered_move}
 use Rattle.book.proofs.Cells.{Matches, out_some, said_same, Only, only_free, only_held, only_in_flight, matches_put, own_put}

@@ -1,9 +1,8 @@
 -- Permits that are taken from a purse and go back. Assumes nothing.
-use Rattle.std.proofs.Common.{◌≡◌, ℕ, ◌<◌, true, false, not, ◌&&◌, ltb, length, get_or, set, is_some, Some, None, Option, Result, sym, refl, ap, ◌∙◌, subst, arith, length-set, get_or-set_same, set-set}
+use Rattle.std.proofs.Common.{◌≡◌, ℕ, ◌<◌, true, not, ltb, length, get_or, set, is_some, Some, None, Option, sym, refl, ap, ◌∙◌, length-set, get_or-set_same, set-set}
 use Rattle.std.specs.Option.{option_map}
 use Rattle.std.proofs.lemmas.List.{set-get_or}
 use Rattle.std.proofs.lemmas.Bool.{and_from, lt-ltb}
-use Rattle.refusals.specs.declared.Refusal.{Refusal}
 use Rattle.cells.specs.Tables.{is_held}
 use Rattle.cells.specs.declared.table.Datagram.{Datagram}
 use Rattle.path.specs.Paths.{PathState}
@@ -12,11 +11,10 @@ use Rattle.path.specs.declared.permit.Permit.{Permit}
 use Rattle.book.specs.declared.call.Answer.{Answer}
 use Rattle.book.specs.declared.call.Call.{Call}
 use Rattle.book.specs.declared.call.Call.TheVariants.{Transmit, Withdraw}
-use Rattle.book.specs.declared.call.Label.{Label}
 use Rattle.book.specs.declared.call.Request.{Request}
 use Rattle.book.specs.declared.call.Request.TheVariants.{Transmit as Transmits, Withdraw as Withdraws}
 use Rattle.book.specs.Requests.{Rules, label_of, said_held, answer, after}
-use Rattle.book.specs.Settings.{Purse, has_room, without, request_of, transmit_of, withdraw_of, spent, purse_after, settled, restored, Setting, next, Performed}
+use Rattle.book.specs.Settings.{Purse, has_room, without, request_of, transmit_of, withdraw_of, spent, purse_after, settled, restored, Setting, Performed}
 
 pub taken_out : (purse : Purse) (i : ℕ) (o : Option Permit) → o ≡ get_or purse i None → set purse i None ≡ without purse i o
 taken_out purse i None e = ap (set purse i) e ∙ set-get_or purse i None

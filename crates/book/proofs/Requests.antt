@@ -1,8 +1,5 @@
 -- One request, from any point where the book and the path agree. Assumes nothing.
-use Rattle.std.proofs.Common.{◌≡◌, ℕ, ◌+◌, ◌-◌, ◌*◌, ◌^◌, ◌<◌, ◌≤◌, Bool, true, false, cond, List, [], ◌∷◌, is_some, Some, None, Ok, Err, Option, sym, refl, ap, ◌∙◌, subst, add-mul, one-mul, arith}
-use Rattle.refusals.specs.declared.NoPermit.{NoPermit}
-use Rattle.refusals.specs.declared.Refusal.{Refusal}
-use Rattle.refusals.specs.declared.Refusal.TheVariants.{Window, Paced}
+use Rattle.std.proofs.Common.{◌≡◌, ℕ, ◌+◌, ◌-◌, ◌*◌, ◌^◌, ◌<◌, ◌≤◌, Bool, cond, List, is_some, Some, None, Ok, Err, Option, sym, refl, ap, ◌∙◌, subst, add-mul, one-mul, arith}
 use Rattle.rtt.specs.Estimates.{Estimate}
 use Rattle.congestion.specs.Meaning.{Meaning, told_sent, told_acked, told_end, told_lost, told_mtu}
 use Rattle.cells.specs.Sound.{Sound}
@@ -15,8 +12,7 @@ use Rattle.cells.specs.declared.table.Datagram.{Datagram}
 use Rattle.cells.proofs.Says.{admitted_says, held_says, landing_says}
 use Rattle.path.specs.Paths.{PathState, pace, permitted, answered}
 use Rattle.path.specs.Paths as paths
-use Rattle.book.specs.declared.call.Answer.{Answer}
-use Rattle.book.specs.declared.call.Answer.TheVariants.{Done, Refused, HandedBack}
+use Rattle.book.specs.declared.call.Answer.TheVariants.{Done, HandedBack}
 use Rattle.book.specs.declared.call.Event.{Event}
 use Rattle.book.specs.declared.call.Event.TheVariants.{Ack, End, Lose, SetMtu}
 use Rattle.book.specs.declared.call.Label.{Label}
@@ -24,7 +20,7 @@ use Rattle.book.specs.declared.call.Request.{Request}
 use Rattle.book.specs.declared.call.Request.TheVariants.{NoCall, Grant, Transmit, Withdraw, Tell}
 use Rattle.book.specs.Book.{Place, Entry, Book, held, in_flight, acknowledged, lost, withdrawn, same, bytes_in, bytes_out, move, paced_check, said, said_grant, entered, at_time, with_mtu, put, granted, accepted, grant_check, holds, flight_check, time_check, sent_by}
 use Rattle.book.specs.Book as book
-use Rattle.book.specs.Agreement.{entry_of, says, Agrees}
+use Rattle.book.specs.Agreement.{entry_of, Agrees}
 use Rattle.book.specs.Requests.{Rules, window, pace_for, said_permit, said_held}
 use Rattle.book.specs.Requests as requests
 use Rattle.book.specs.Theorem.{Verdict, GrantLaw, Small}

@@ -4,8 +4,6 @@ use lib.Seq.{take-set-le}
 use Rattle.std.proofs.lemmas.List.{take_more, take_more_set}
 use Rattle.std.proofs.lemmas.Bool.{cases_eq}
 use Rattle.congestion.specs.Meaning.{Meaning}
-use Rattle.path.specs.Paths.{PathState}
-use Rattle.book.specs.declared.call.Call.{Call}
 use Rattle.book.specs.declared.call.Step.{Step}
 use Rattle.book.specs.Book.{Book}
 use Rattle.book.specs.Requests.{Rules}

@@ -1,8 +1,7 @@
 -- A path's answer to a request, and its state then, by the definitions of its calls. Assumes nothing.
-use Rattle.std.specs.Prelude.{ℕ, Bool, Some, None, Ok, Err, Option, Result}
-use Rattle.values.specs.declared.mtu.Mtu.{Mtu}
+use Rattle.std.specs.Prelude.{ℕ, Bool, Some, None, Ok, Err, Option}
 use Rattle.rtt.specs.Estimates.{Estimate}
-use Rattle.congestion.specs.Meaning.{Meaning, told_sent, told_acked, told_end, told_lost, told_mtu}
+use Rattle.congestion.specs.Meaning.{Meaning}
 use Rattle.cells.specs.Tables.{Checked, admitted, is_held, landing, in_time}
 use Rattle.cells.specs.declared.table.Datagram.{Datagram}
 use Rattle.path.specs.Paths.{PathState, pace, permitted, granted, answered, transmitted, withdrawn, acknowledged, ended, lost, resized}

@@ -2,7 +2,7 @@
 --
 -- A permit that is granted goes to the place of the purse that the call names, where nothing may be yet; one that is presented is taken from
 -- its place, and goes back there where it is handed back. A call that names a place without a permit, or without room for one, is not made.
-use Rattle.std.specs.Prelude.{◌≡◌, ℕ, Bool, true, false, cond, not, ◌&&◌, List, [], ◌∷◌, length, is_some, Some, None, Ok, Err, Option, Result, nat_lt, slice_index_or, slice_set}
+use Rattle.std.specs.Prelude.{◌≡◌, ℕ, Bool, true, cond, not, ◌&&◌, List, [], ◌∷◌, length, is_some, Some, None, Ok, Err, Option, Result, nat_lt, slice_index_or, slice_set}
 use Rattle.std.specs.Option.{option_map}
 use Rattle.refusals.specs.Refusals as refusals
 use Rattle.refusals.specs.declared.Refusal.{Refusal}

@@ -51,7 +51,7 @@ fn request(purse: &[Option<Permit>], call: Call) -> Request
 
 // What the pacer would answer to a grant; other requests do not ask it.
 fn pace<C: Controller>(path: &Path<C>, request: Request) -> Option<u64>
-    ensures { result ≡ pace_for (rules meaning afterSent afterAck afterEnd afterLoss afterMtu) (state_of model path.now) request }
+    ensures { result ≡ pace_for (rules C.meaning C.after_sent C.after_ack C.after_end C.after_loss C.after_mtu) (state_of C.model path.now) request }
 {
     match request {
         Request::Grant { size, time } => path.pacing(size, time),
@@ -69,8 +69,8 @@ fn said(answer: Result<(), Refusal>) -> Answer
 }
 
 fn tell<C: Controller>(path: &mut Path<C>, event: Event) -> Answer
-    ensures answer { result ≡ event_answer (state_of model path.old) event }
-    ensures state { state_of model path.new ≡ event_after (rules meaning afterSent afterAck afterEnd afterLoss afterMtu) (state_of model path.old) event }
+    ensures answer { result ≡ event_answer (state_of C.model path.old) event }
+    ensures state { state_of C.model path.new ≡ event_after (rules C.meaning C.after_sent C.after_ack C.after_end C.after_loss C.after_mtu) (state_of C.model path.old) event }
 {
     match event {
         Event::Ack {
@@ -99,7 +99,7 @@ fn grant<C: Controller>(
     time: u64,
     place: usize,
 ) -> Answer
-    ensures { Performed (rules meaning afterSent afterAck afterEnd afterLoss afterMtu) (record { path = state_of model path.entry.now; purse = purse.old }) (Call.Grant size time place) result (record { path = state_of model path.exit.now; purse = purse.new }) }
+    ensures { Performed (rules C.meaning C.after_sent C.after_ack C.after_end C.after_loss C.after_mtu) (record { path = state_of C.model path.old; purse = purse.old }) (Call.Grant size time place) result (record { path = state_of C.model path.new; purse = purse.new }) }
 {
     if !room_at(purse, place) {
         return Answer::NoCall;
@@ -135,7 +135,7 @@ fn settle(
 }
 
 fn transmit<C: Controller>(path: &mut Path<C>, purse: &mut [Option<Permit>], place: usize) -> Answer
-    ensures { Performed (rules meaning afterSent afterAck afterEnd afterLoss afterMtu) (record { path = state_of model path.entry.now; purse = purse.old }) (Call.Transmit place) result (record { path = state_of model path.exit.now; purse = purse.new }) }
+    ensures { Performed (rules C.meaning C.after_sent C.after_ack C.after_end C.after_loss C.after_mtu) (record { path = state_of C.model path.old; purse = purse.old }) (Call.Transmit place) result (record { path = state_of C.model path.new; purse = purse.new }) }
 {
     let Some(permit) = take(purse, place) else {
         return Answer::NoCall;
@@ -146,7 +146,7 @@ fn transmit<C: Controller>(path: &mut Path<C>, purse: &mut [Option<Permit>], pla
 }
 
 fn withdraw<C: Controller>(path: &mut Path<C>, purse: &mut [Option<Permit>], place: usize) -> Answer
-    ensures { Performed (rules meaning afterSent afterAck afterEnd afterLoss afterMtu) (record { path = state_of model path.entry.now; purse = purse.old }) (Call.Withdraw place) result (record { path = state_of model path.exit.now; purse = purse.new }) }
+    ensures { Performed (rules C.meaning C.after_sent C.after_ack C.after_end C.after_loss C.after_mtu) (record { path = state_of C.model path.old; purse = purse.old }) (Call.Withdraw place) result (record { path = state_of C.model path.new; purse = purse.new }) }
 {
     let Some(permit) = take(purse, place) else {
         return Answer::NoCall;
@@ -157,7 +157,7 @@ fn withdraw<C: Controller>(path: &mut Path<C>, purse: &mut [Option<Permit>], pla
 }
 
 fn perform<C: Controller>(path: &mut Path<C>, purse: &mut [Option<Permit>], call: Call) -> Answer
-    ensures { Performed (rules meaning afterSent afterAck afterEnd afterLoss afterMtu) (record { path = state_of model path.entry.now; purse = purse.old }) call result (record { path = state_of model path.exit.now; purse = purse.new }) }
+    ensures { Performed (rules C.meaning C.after_sent C.after_ack C.after_end C.after_loss C.after_mtu) (record { path = state_of C.model path.old; purse = purse.old }) call result (record { path = state_of C.model path.new; purse = purse.new }) }
 {
     match call {
         Call::Grant { size, time, place } => grant(path, purse, size, time, place),
@@ -171,9 +171,9 @@ fn perform<C: Controller>(path: &mut Path<C>, purse: &mut [Option<Permit>], call
 ///
 /// Whatever list of calls led to this path from one begun afresh: what stands after that list stands with this call added.
 pub fn call<C: Controller>(path: &mut Path<C>, purse: &mut [Option<Permit>], call: Call) -> Step
-    ensures step { result ≡ noted (rules meaning afterSent afterAck afterEnd afterLoss afterMtu) (record { path = state_of model path.entry.now; purse = purse.old }) call }
-    ensures setting { ◌≡◌ {A = Setting _} (record { path = state_of model path.exit.now; purse = purse.new }) (next (rules meaning afterSent afterAck afterEnd afterLoss afterMtu) (record { path = state_of model path.entry.now; purse = purse.old }) call) }
-    ensures stands { (k : Book) (m : Meaning) (steps : List Step) → Modest m → Stands meaning least k m steps (state_of model path.old) → Stands meaning least k m (steps ++ result ∷ []) (state_of model path.new) }
+    ensures step { result ≡ noted (rules C.meaning C.after_sent C.after_ack C.after_end C.after_loss C.after_mtu) (record { path = state_of C.model path.old; purse = purse.old }) call }
+    ensures setting { ◌≡◌ {A = Setting _} (record { path = state_of C.model path.new; purse = purse.new }) (next (rules C.meaning C.after_sent C.after_ack C.after_end C.after_loss C.after_mtu) (record { path = state_of C.model path.old; purse = purse.old }) call) }
+    ensures stands { (k : Book) (m : Meaning) (steps : List Step) → Modest m → Stands C.meaning C.least k m steps (state_of C.model path.old) → Stands C.meaning C.least k m (steps ++ result ∷ []) (state_of C.model path.new) }
     ensures backed { length purse.old ≡ 1 → Backed path.old.tracker.table purse.old → Backed path.new.tracker.table purse.new }
 {
     let request = request(purse, call);
@@ -198,9 +198,9 @@ pub fn run<C: Controller>(
     steps: &mut [Step],
     purse: &mut [Option<Permit>],
 ) -> Path<C>
-    ensures log { steps.new ≡ log (rules meaning afterSent afterAck afterEnd afterLoss afterMtu) (record { path = begun meaning afterMtu (model controller) opening; purse = purse.old }) steps.old }
-    ensures last { ◌≡◌ {A = Setting _} (record { path = state_of model result; purse = purse.new }) (last (rules meaning afterSent afterAck afterEnd afterLoss afterMtu) (record { path = begun meaning afterMtu (model controller) opening; purse = purse.old }) steps.old) }
-    ensures stands { Modest (meaning (model controller)) → (i : ℕ) → i ≤ length steps.old → Stands meaning least (opened opening) (meaning (model controller)) (take i steps.new) (last (rules meaning afterSent afterAck afterEnd afterLoss afterMtu) (record { path = begun meaning afterMtu (model controller) opening; purse = purse.old }) (take i steps.old)).path }
+    ensures log { steps.new ≡ log (rules C.meaning C.after_sent C.after_ack C.after_end C.after_loss C.after_mtu) (record { path = begun C.meaning C.after_mtu (C.model controller) opening; purse = purse.old }) steps.old }
+    ensures last { ◌≡◌ {A = Setting _} (record { path = state_of C.model result; purse = purse.new }) (last (rules C.meaning C.after_sent C.after_ack C.after_end C.after_loss C.after_mtu) (record { path = begun C.meaning C.after_mtu (C.model controller) opening; purse = purse.old }) steps.old) }
+    ensures stands { Modest (C.meaning (C.model controller)) → (i : ℕ) → i ≤ length steps.old → Stands C.meaning C.least (opened opening) (C.meaning (C.model controller)) (take i steps.new) (last (rules C.meaning C.after_sent C.after_ack C.after_end C.after_loss C.after_mtu) (record { path = begun C.meaning C.after_mtu (C.model controller) opening; purse = purse.old }) (take i steps.old)).path }
     ensures backed { length purse.old ≡ 1 → slice_index_or purse.old 0 None ≡ None → Backed result.tracker.table purse.new }
 {
     let mut path = Path::new(controller, opening);

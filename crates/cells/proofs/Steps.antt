@@ -1,5 +1,5 @@
 -- Each step keeps a table sound. Assumes nothing.
-use Rattle.std.proofs.Common.{◌≡◌, ℕ, ◌+◌, ◌*◌, ◌%◌, ◌^◌, ◌<◌, ◌≤◌, get_or, replicate, Some, None, Ok, Err, Option, refl, ap, arith}
+use Rattle.std.proofs.Common.{◌≡◌, ℕ, ◌+◌, ◌%◌, ◌^◌, ◌<◌, ◌≤◌, get_or, replicate, Some, None, Ok, Err, Option, refl, ap, arith}
 use Rattle.std.proofs.lemmas.List.{get_or-replicate}
 use Rattle.values.specs.declared.mtu.Mtu.{Mtu}
 use Rattle.cells.specs.declared.table.Cell.TheVariants.{Free, Held, InFlight}
@@ -9,7 +9,7 @@ use Rattle.cells.specs.declared.table.Datagram.{Datagram}
 use Rattle.cells.specs.Sums.{held_size, in_flight_size}
 use Rattle.cells.specs.Sound.{all_places, Sound}
 use Rattle.cells.specs.Tables.{Checked, opened, cell_of, admitted, with_held, held_if, is_held, transmitted_if, transmitted, withdrawn_if, withdrawn, landing, freed, counted_if, one_acknowledged, one_lost, acknowledged, lost}
-use Rattle.cells.proofs.Kept.{Small, held_enough, in_flight_enough, Replaced, replaced}
+use Rattle.cells.proofs.Kept.{held_enough, in_flight_enough, replaced}
 use Rattle.cells.proofs.Says.{admitted_says, held_says, landing_says}
 
 pub opened_sound : (n : ℕ) (mtu : Mtu) (start : ℕ) → n < 2 ^ 48 → Sound (opened n mtu start)
@@ -26,14 +26,15 @@ opened_sound n mtu start h = (
 small_was : (b : CellTable) (n : ℕ) (d : Datagram) → Sound b → cell_of b n ≡ Held d → d.size ≤ 1500
 small_was b n d ok is = omega (arith, ok.1.2 (n % 256) (omega arith), ap held_size is, ap in_flight_size is)
 
-pub held_sound : (b : CellTable) (size time window : ℕ) → Sound b → (a : Checked (Unit {0})) → admitted b size time window ≡ a → Sound (held_if b size time a)
-held_sound b size time window ok (Err e) h = ok
-held_sound b size time window ok (Ok u) h =
+-- whichever time becomes the latest
+pub held_sound : (b : CellTable) (size time window latest : ℕ) → Sound b → (a : Checked (Unit {0})) → admitted b size time window ≡ a → Sound (held_if b size latest a)
+held_sound b size time window latest ok (Err e) h = ok
+held_sound b size time window latest ok (Ok u) h =
     let a = admitted_says b size time window h in
     let n = a.numbers in
     let limit = ok.1.1 in
     let largest = b.mtu.within.1 in
-    replaced b (with_held b size time) b.next Free (Held (record { number = b.next; size = size; time = time })) ok
+    replaced b (with_held b size latest) b.next Free (Held (record { number = b.next; size = size; time = latest })) ok
     (record {
       was = a.free;
       fits = omega (arith, a.fits, largest);

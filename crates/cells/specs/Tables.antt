@@ -5,8 +5,8 @@
 -- pass the window with it (7), the first of these that applies. A number is held with the size that it was granted with, goes in flight or
 -- is withdrawn, and a number in flight is acknowledged or lost; each is in one place, and the cell of a number that has come to its end
 -- is free.
-use Rattle.std.specs.Prelude.{ℕ, ◌+◌, ◌-◌, ◌%◌, Bool, true, false, cond, not, ◌&&◌, ◌||◌, List, replicate, Some, None, Ok, Err, Option, Result, ◌==◌, nat_lt, slice_index_or, slice_set}
-use Rattle.refusals.specs.declared.NoPermit.{NoPermit}
+use Rattle.std.specs.Prelude.{ℕ, ◌+◌, ◌-◌, ◌%◌, Bool, true, false, cond, not, ◌&&◌, ◌||◌, replicate, Some, None, Ok, Err, Option, Result, ◌==◌, nat_lt, slice_index_or, slice_set}
+use Rattle.std.specs.declared.convert.Infallible.{Infallible as NoPermit}
 use Rattle.refusals.specs.declared.Refusal.{Refusal}
 use Rattle.refusals.specs.declared.Refusal.TheVariants.{Size, Time, Held as HeldAlready, NumbersExhausted, CellTaken, Window, NotInFlight}
 use Rattle.values.specs.declared.mtu.Mtu.{Mtu}

@@ -10,9 +10,8 @@
 -- grant and the size. Every refusal but 8 leaves all as it was.
 --
 -- `meaning` and the steps that are passed in are those of the controller.
-use Rattle.std.specs.Prelude.{◌≡◌, ℕ, ◌-◌, ◌^◌, ◌<◌, min, max, Bool, true, cond, Some, None, Ok, Err, Option, Result, nat_lt}
+use Rattle.std.specs.Prelude.{ℕ, ◌-◌, ◌^◌, ◌<◌, min, max, Bool, true, cond, Some, None, Ok, Err, Option, Result, nat_lt}
 use Rattle.std.proofs.Common.{arith}
-use Rattle.refusals.specs.declared.NoPermit.{NoPermit}
 use Rattle.refusals.specs.declared.Refusal.{Refusal}
 use Rattle.refusals.specs.declared.Refusal.TheVariants.{Paced, NotHeld}
 use Rattle.values.specs.Saturating.{sum}
@@ -61,13 +60,13 @@ state_of model p =
 
 -- a new path
 abbrev pub opened : {M : Type 0} → (M → Meaning) → (M → ℕ → M) → M → Opening → PathState M
-opened meaning afterMtu m o =
+opened meaning after_mtu m o =
     record {
       table = tables.opened o.first_number o.mtu o.start;
-      controller = afterMtu m o.mtu.value;
+      controller = after_mtu m o.mtu.value;
       estimate = estimates.opened o.initial_rtt.nanos;
       fastest = fresh slowest;
-      pacer = pacing.opened o.initial_rtt.nanos (meaning (afterMtu m o.mtu.value)).window o.mtu.value o.start;
+      pacer = pacing.opened o.initial_rtt.nanos (meaning (after_mtu m o.mtu.value)).window o.mtu.value o.start;
       largest = None;
       round = 0;
     }
@@ -115,9 +114,9 @@ presented permit (Some d) = Ok tt
 presented permit None = Err (NotHeld permit)
 
 abbrev pub transmitted : {M : Type 0} → (M → ℕ → ℕ → ℕ → M) → PathState M → ℕ → ℕ → Option Datagram → PathState M
-transmitted afterSent s n size (Some d) =
-    with_parts s (transmitted_if s.table n size (Some d)) (afterSent s.controller d.time d.size d.number) (sent s.pacer d.size)
-transmitted afterSent s n size None = s
+transmitted after_sent s n size (Some d) =
+    with_parts s (transmitted_if s.table n size (Some d)) (after_sent s.controller d.time d.size d.number) (sent s.pacer d.size)
+transmitted after_sent s n size None = s
 
 abbrev pub withdrawn : {M : Type 0} → PathState M → ℕ → ℕ → PathState M
 withdrawn s n size = with_parts s (tables.withdrawn s.table n size) s.controller s.pacer
@@ -159,34 +158,34 @@ sampled s d delay time = sampled_if (is_newest s.largest d.number) s d delay tim
 
 -- the table is this one, and the controller is told of the bytes with the estimate that there is then
 abbrev pub told_ack : {M : Type 0} → (M → ℕ → ℕ → ℕ → Bool → Estimate → M) → PathState M → CellTable → Datagram → Bool → ℕ → PathState M
-told_ack afterAck s table d limited time =
-    with_parts s table (afterAck s.controller time d.time d.size limited s.estimate) s.pacer
+told_ack after_ack s table d limited time =
+    with_parts s table (after_ack s.controller time d.time d.size limited s.estimate) s.pacer
 
 abbrev pub acknowledged : {M : Type 0} → (M → ℕ → ℕ → ℕ → Bool → Estimate → M) → PathState M → ℕ → ℕ → Bool → ℕ → Checked Datagram → PathState M
-acknowledged afterAck s n delay limited time (Ok d) =
-    told_ack afterAck (sampled s d delay time) (tables.acknowledged s.table n time) d limited time
-acknowledged afterAck s n delay limited time (Err e) = s
+acknowledged after_ack s n delay limited time (Ok d) =
+    told_ack after_ack (sampled s d delay time) (tables.acknowledged s.table n time) d limited time
+acknowledged after_ack s n delay limited time (Err e) = s
 
 abbrev pub ended : {M : Type 0} → (M → ℕ → ℕ → Bool → Option ℕ → M) → PathState M → Bool → ℕ → Checked (Unit {0}) → PathState M
-ended afterEnd s limited time (Ok u) =
+ended after_end s limited time (Ok u) =
     record {
       table = at_time s.table time;
-      controller = afterEnd s.controller time s.table.in_flight_bytes limited s.largest;
+      controller = after_end s.controller time s.table.in_flight_bytes limited s.largest;
       estimate = s.estimate;
       fastest = s.fastest;
       pacer = s.pacer;
       largest = s.largest;
       round = sum s.round 1;
     }
-ended afterEnd s limited time (Err e) = s
+ended after_end s limited time (Err e) = s
 
 abbrev pub lost : {M : Type 0} → (M → ℕ → ℕ → Bool → ℕ → M) → PathState M → ℕ → Bool → ℕ → Checked Datagram → PathState M
-lost afterLoss s n persistent time (Ok d) =
-    with_parts s (tables.lost s.table n time) (afterLoss s.controller time d.time persistent d.size) s.pacer
-lost afterLoss s n persistent time (Err e) = s
+lost after_loss s n persistent time (Ok d) =
+    with_parts s (tables.lost s.table n time) (after_loss s.controller time d.time persistent d.size) s.pacer
+lost after_loss s n persistent time (Err e) = s
 
 abbrev pub resized : {M : Type 0} → (M → ℕ → M) → PathState M → Mtu → PathState M
-resized afterMtu s mtu = with_parts s (with_mtu s.table mtu) (afterMtu s.controller mtu.value) s.pacer
+resized after_mtu s mtu = with_parts s (with_mtu s.table mtu) (after_mtu s.controller mtu.value) s.pacer
 
 -- the numbers handed out are those from the first to the next
 abbrev pub reported : {M : Type 0} → PathState M → Report

@@ -1,4 +1,6 @@
 // An example of each refusal of the path, and the allowed uses of a permit, run above NewReno.
+#![tactic(auto)]
+
 #[cfg(test)]
 mod tests {
     use book::call::{Answer, Call, Event, Step};
@@ -56,8 +58,10 @@ mod tests {
 
     // Makes the calls on a path of its own; a permit that is left in the purse is withdrawn.
     fn play(window: u64, first: u64, steps: &mut [Step]) -> Result<Report, Refusal> {
+        let controller = controller(window)?;
+        let opening = opening(first)?;
         let mut purse = [None];
-        let mut path = run(controller(window)?, opening(first)?, steps, &mut purse);
+        let mut path = run(controller, opening, steps, &mut purse);
         let [left] = purse;
         if let Some(permit) = left {
             match path.withdraw(permit) {

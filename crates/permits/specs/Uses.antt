@@ -18,7 +18,7 @@ grant_state meaning s size time =
     granted meaning s size time (admitted s.table size time (meaning s.controller).window) (pace meaning s size time)
 
 abbrev pub transmit_state : {M : Type 0} → (M → ℕ → ℕ → ℕ → M) → PathState M → Permit → PathState M
-transmit_state afterSent s p = transmitted afterSent s p.number p.size (is_held s.table p.number p.size)
+transmit_state after_sent s p = transmitted after_sent s p.number p.size (is_held s.table p.number p.size)
 
 -- A block that fits its datagram is sent, and any other is refused 1, layer value, with its permit withdrawn.
 abbrev pub block_answer : Checked Permit → Bool → Checked ℕ
@@ -26,8 +26,8 @@ block_answer (Ok p) fits = cond fits (Ok p.number) (Err (OutsideLimit Value))
 block_answer (Err e) fits = Err e
 
 abbrev pub block_state : {M : Type 0} → (M → ℕ → ℕ → ℕ → M) → PathState M → Checked Permit → Bool → PathState M
-block_state afterSent s (Ok p) fits = cond fits (transmit_state afterSent s p) (withdrawn s p.number p.size)
-block_state afterSent s (Err e) fits = s
+block_state after_sent s (Ok p) fits = cond fits (transmit_state after_sent s p) (withdrawn s p.number p.size)
+block_state after_sent s (Err e) fits = s
 
 abbrev pub number_of : Checked Permit → Checked ℕ
 number_of (Ok p) = Ok p.number
@@ -35,13 +35,13 @@ number_of (Err e) = Err e
 
 -- Another path that does not hold the permit is left as it is, and the permit's own path takes it.
 abbrev pub unless_taken : {M : Type 0} → (M → ℕ → ℕ → ℕ → M) → PathState M → Permit → Option Datagram → PathState M
-unless_taken afterSent s p None = transmit_state afterSent s p
-unless_taken afterSent s p (Some d) = s
+unless_taken after_sent s p None = transmit_state after_sent s p
+unless_taken after_sent s p (Some d) = s
 
 abbrev pub own_state : {M : Type 0} → (M → ℕ → ℕ → ℕ → M) → PathState M → PathState M → Checked Permit → PathState M
-own_state afterSent own other (Ok p) = unless_taken afterSent own p (is_held other.table p.number p.size)
-own_state afterSent own other (Err e) = own
+own_state after_sent own other (Ok p) = unless_taken after_sent own p (is_held other.table p.number p.size)
+own_state after_sent own other (Err e) = own
 
 abbrev pub other_state : {M : Type 0} → (M → ℕ → ℕ → ℕ → M) → PathState M → Checked Permit → PathState M
-other_state afterSent other (Ok p) = transmit_state afterSent other p
-other_state afterSent other (Err e) = other
+other_state after_sent other (Ok p) = transmit_state after_sent other p
+other_state after_sent other (Err e) = other

@@ -1,4 +1,6 @@
 // What may be done with a permit on a way out. Each use has a neighbour that does not compile: see `misuse/`.
+#![tactic(auto)]
+
 ghost use Rattle.std.specs.Prelude.{◌≡◌, true, length, is_some, ◌==◌};
 ghost use Rattle.cells.specs.Tables.{is_held};
 ghost use Rattle.path.specs.Paths.{state_of, withdrawn};
@@ -12,7 +14,7 @@ use refusals::{Layer, Refusal};
 // A permit that its own path granted is held there, so the path takes it back.
 fn take_back<C: Controller>(path: &mut Path<C>, permit: Permit)
     requires { is_some (is_held path.old.tracker.table permit.number permit.size) ≡ true }
-    ensures { state_of model path.new ≡ withdrawn (state_of model path.old) permit.number permit.size }
+    ensures { state_of C.model path.new ≡ withdrawn (state_of C.model path.old) permit.number permit.size }
 {
     match path.withdraw(permit) {
         Ok(()) => {}
@@ -22,7 +24,7 @@ fn take_back<C: Controller>(path: &mut Path<C>, permit: Permit)
 
 fn send<C: Controller>(path: &mut Path<C>, permit: Permit)
     requires { is_some (is_held path.old.tracker.table permit.number permit.size) ≡ true }
-    ensures { state_of model path.new ≡ transmit_state afterSent (state_of model path.old) permit }
+    ensures { state_of C.model path.new ≡ transmit_state C.after_sent (state_of C.model path.old) permit }
 {
     match path.transmit(permit) {
         Ok(()) => {}
@@ -38,8 +40,8 @@ pub fn send_block<C: Controller>(
     size: u16,
     time: u64,
 ) -> Result<u64, Refusal>
-    ensures answer { result ≡ block_answer (grant_answer meaning (state_of model path.old) size time) (length block.now == size) }
-    ensures state { state_of model path.new ≡ block_state afterSent (grant_state meaning (state_of model path.old) size time) (grant_answer meaning (state_of model path.old) size time) (length block.now == size) }
+    ensures answer { result ≡ block_answer (grant_answer C.meaning (state_of C.model path.old) size time) (length block.now == size) }
+    ensures state { state_of C.model path.new ≡ block_state C.after_sent (grant_state C.meaning (state_of C.model path.old) size time) (grant_answer C.meaning (state_of C.model path.old) size time) (length block.now == size) }
 {
     let permit = path.grant(size, time)?;
     let number = permit.number();
@@ -58,9 +60,9 @@ pub fn present_again<C: Controller>(
     size: u16,
     time: u64,
 ) -> Result<u64, Refusal>
-    ensures answer { result ≡ number_of (grant_answer meaning (state_of model own.old) size time) }
-    ensures own { state_of model own.new ≡ own_state afterSent (grant_state meaning (state_of model own.old) size time) (state_of model other.old) (grant_answer meaning (state_of model own.old) size time) }
-    ensures other { state_of model other.new ≡ other_state afterSent (state_of model other.old) (grant_answer meaning (state_of model own.old) size time) }
+    ensures answer { result ≡ number_of (grant_answer C.meaning (state_of C.model own.old) size time) }
+    ensures own { state_of C.model own.new ≡ own_state C.after_sent (grant_state C.meaning (state_of C.model own.old) size time) (state_of C.model other.old) (grant_answer C.meaning (state_of C.model own.old) size time) }
+    ensures other { state_of C.model other.new ≡ other_state C.after_sent (state_of C.model other.old) (grant_answer C.meaning (state_of C.model own.old) size time) }
 {
     let permit = own.grant(size, time)?;
     let number = permit.number();

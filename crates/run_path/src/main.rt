@@ -1,4 +1,6 @@
 // Runs a list of calls on a path above NewReno, and prints what each answered, the window that it met, and the report in the end.
+#![tactic(auto)]
+
 use book::call::{Call, Event, Step};
 use book::run::run;
 use new_reno::config::NewRenoConfig;

@@ -33,7 +33,7 @@ fn round_trip(datagram: Datagram, time: u64) -> RttSample
 impl<C: Controller> Path<C> {
     /// A path that has handed out nothing. The controller is told the MTU first, and the pacer starts from its window then.
     pub fn new(controller: C, opening: Opening) -> Path<C>
-        ensures { state_of model result ≡ opened meaning afterMtu (model controller) opening }
+        ensures { state_of C.model result ≡ opened C.meaning C.after_mtu (C.model controller) opening }
     {
         let mut controller = controller;
         controller.on_mtu_update(opening.mtu());
@@ -56,8 +56,8 @@ impl<C: Controller> Path<C> {
 
     /// Grants a datagram of `size` bytes: its number is held, and the permit goes out. Refusals 2 to 8.
     pub fn grant(&mut self, size: u16, time: u64) -> Result<Permit, Refusal>
-        ensures answer { result ≡ permitted self.old.tracker.table.next size (admitted self.old.tracker.table size time (meaning (model self.old.controller)).window) (pace meaning (state_of model self.old) size time) }
-        ensures state { state_of model self.new ≡ granted meaning (state_of model self.old) size time (admitted self.old.tracker.table size time (meaning (model self.old.controller)).window) (pace meaning (state_of model self.old) size time) }
+        ensures answer { result ≡ permitted self.old.tracker.table.next size (admitted self.old.tracker.table size time (C.meaning (C.model self.old.controller)).window) (pace C.meaning (state_of C.model self.old) size time) }
+        ensures state { state_of C.model self.new ≡ granted C.meaning (state_of C.model self.old) size time (admitted self.old.tracker.table size time (C.meaning (C.model self.old.controller)).window) (pace C.meaning (state_of C.model self.old) size time) }
         ensures held { IfOk result (λ p. is_some (is_held self.new.tracker.table p.number p.size) ≡ true) }
     {
         let window = self.controller.window();
@@ -77,7 +77,7 @@ impl<C: Controller> Path<C> {
     /// Sends what was granted: the number is in flight, and the controller and the pacer are told. Refusal 9 hands the permit back.
     pub fn transmit(&mut self, permit: Permit) -> Result<(), Refusal<Permit>>
         ensures answer { result ≡ presented permit (is_held self.old.tracker.table permit.number permit.size) }
-        ensures state { state_of model self.new ≡ transmitted afterSent (state_of model self.old) permit.number permit.size (is_held self.old.tracker.table permit.number permit.size) }
+        ensures state { state_of C.model self.new ≡ transmitted C.after_sent (state_of C.model self.old) permit.number permit.size (is_held self.old.tracker.table permit.number permit.size) }
     {
         let Some(datagram) = self.tracker.transmit(permit.number, permit.size) else {
             return Err(Refusal::NotHeld(permit));
@@ -92,7 +92,7 @@ impl<C: Controller> Path<C> {
     /// Gives back what was granted: the number is withdrawn, and nobody is told. Refusal 9 hands the permit back.
     pub fn withdraw(&mut self, permit: Permit) -> Result<(), Refusal<Permit>>
         ensures answer { result ≡ presented permit (is_held self.old.tracker.table permit.number permit.size) }
-        ensures state { state_of model self.new ≡ withdrawn (state_of model self.old) permit.number permit.size }
+        ensures state { state_of C.model self.new ≡ withdrawn (state_of C.model self.old) permit.number permit.size }
     {
         let Some(_) = self.tracker.withdraw(permit.number, permit.size) else {
             return Err(Refusal::NotHeld(permit));
@@ -113,7 +113,7 @@ impl<C: Controller> Path<C> {
     // Only a number above all that were acknowledged before shows the present round trip.
     fn take_sample(&mut self, datagram: Datagram, delay: u64, time: u64) -> Result<(), Refusal>
         ensures answer { result ≡ Ok tt }
-        ensures state { state_of model self.new ≡ sampled (state_of model self.old) datagram delay time }
+        ensures state { state_of C.model self.new ≡ sampled (state_of C.model self.old) datagram delay time }
     {
         if !self.is_newest(datagram.number) {
             return Ok(());
@@ -134,7 +134,7 @@ impl<C: Controller> Path<C> {
         time: u64,
     ) -> Result<(), Refusal>
         ensures answer { result ≡ answered (landing self.old.tracker.table number time) }
-        ensures state { state_of model self.new ≡ acknowledged afterAck (state_of model self.old) number delay app_limited time (landing self.old.tracker.table number time) }
+        ensures state { state_of C.model self.new ≡ acknowledged C.after_ack (state_of C.model self.old) number delay app_limited time (landing self.old.tracker.table number time) }
     {
         let datagram = self.tracker.acknowledge(number, time)?;
         self.take_sample(datagram, delay, time)?;
@@ -151,7 +151,7 @@ impl<C: Controller> Path<C> {
     /// A batch of acks has ended. Refusal 3.
     pub fn end(&mut self, app_limited: bool, time: u64) -> Result<(), Refusal>
         ensures answer { result ≡ in_time self.old.tracker.table time }
-        ensures state { state_of model self.new ≡ ended afterEnd (state_of model self.old) app_limited time (in_time self.old.tracker.table time) }
+        ensures state { state_of C.model self.new ≡ ended C.after_end (state_of C.model self.old) app_limited time (in_time self.old.tracker.table time) }
     {
         self.tracker.check_time(time)?;
         self.tracker.advance(time);
@@ -165,7 +165,7 @@ impl<C: Controller> Path<C> {
     /// A number in flight was lost. Refusals 3 and 10.
     pub fn lose(&mut self, number: u64, persistent: bool, time: u64) -> Result<(), Refusal>
         ensures answer { result ≡ answered (landing self.old.tracker.table number time) }
-        ensures state { state_of model self.new ≡ lost afterLoss (state_of model self.old) number persistent time (landing self.old.tracker.table number time) }
+        ensures state { state_of C.model self.new ≡ lost C.after_loss (state_of C.model self.old) number persistent time (landing self.old.tracker.table number time) }
     {
         let datagram = self.tracker.lose(number, time)?;
         self.controller
@@ -175,7 +175,7 @@ impl<C: Controller> Path<C> {
 
     /// The MTU has changed.
     pub fn set_mtu(&mut self, mtu: Mtu)
-        ensures { state_of model self.new ≡ resized afterMtu (state_of model self.old) mtu }
+        ensures { state_of C.model self.new ≡ resized C.after_mtu (state_of C.model self.old) mtu }
     {
         self.tracker.set_mtu(mtu);
         self.controller.on_mtu_update(mtu);

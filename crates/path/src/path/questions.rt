@@ -11,14 +11,14 @@ use congestion::controller::Controller;
 impl<C: Controller> Path<C> {
     /// The bytes that may be out.
     pub fn window(&self) -> u64
-        ensures { result ≡ (meaning (model self.now.controller)).window }
+        ensures { result ≡ (C.meaning (C.model self.now.controller)).window }
     {
         self.controller.window()
     }
 
     /// What the pacer would answer to a grant that passed all other checks.
     pub fn pacing(&self, size: u16, time: u64) -> Option<u64>
-        ensures { result ≡ pace meaning (state_of model self.now) size time }
+        ensures { result ≡ pace C.meaning (state_of C.model self.now) size time }
     {
         let mut pacer = self.pacer;
         let mtu = self.tracker.table().mtu;
@@ -46,7 +46,7 @@ impl<C: Controller> Path<C> {
 
     /// How many numbers were handed out and where they are, and the fastest round trip.
     pub fn report(&self) -> Report
-        ensures { result ≡ reported (state_of model self.now) }
+        ensures { result ≡ reported (state_of C.model self.now) }
     {
         let table = self.tracker.table();
         let (fastest, _, _) = self.rtt_filter.samples();

@@ -6,14 +6,13 @@ use Rattle.book.specs.Settings.{Setting, noted, Backed}
 use Rattle.book.proofs.Backing.{next_backed}
 use Rattle.book.proofs.Requests.{Lawful}
 use Rattle.book.proofs.Lists.{added}
-use Rattle.book.proofs.run.call.Given as given
 use Rattle.book.proofs.run.call.Goals as goal
 
 pub returns : goal.returns
 returns g c =
     let m = g.C.Controller in
     let met = g.met.C.Controller in
-    let r : Rules m.Model = rules m.meaning m.afterSent m.afterAck m.afterEnd m.afterLoss m.afterMtu in
+    let r : Rules m.Model = rules m.meaning m.after_sent m.after_ack m.after_end m.after_loss m.after_mtu in
     let law : Lawful r = record { sends = met.sends; acks = met.acks; ends = met.ends; loses = met.loses; resizes = met.resizes } in
     let path = c.args.path.now in
     let x : Setting m.Model = record { path = state_of m.model path; purse = c.args.purse.now } in

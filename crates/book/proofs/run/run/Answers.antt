@@ -11,7 +11,7 @@ use Rattle.book.proofs.run.run.Given as given
 use Rattle.book.proofs.run.run.Goals as goal
 
 abbrev ruled : (g : given.Over) → Rules g.C.Controller.Model
-ruled g = let m = g.C.Controller in rules m.meaning m.afterSent m.afterAck m.afterEnd m.afterLoss m.afterMtu
+ruled g = let m = g.C.Controller in rules m.meaning m.after_sent m.after_ack m.after_end m.after_loss m.after_mtu
 
 pub loop-step-init : goal.loop-step-init
 loop-step-init g c = begin (ruled g) g.C.Controller.least _ _
@@ -29,7 +29,7 @@ returns g c =
     let law : Lawful (ruled g) = record { sends = met.sends; acks = met.acks; ends = met.ends; loses = met.loses; resizes = met.resizes } in
     let steps = c.args.steps.now in
     let x : Setting m.Model = record { path = state_of m.model c.new-path.result; purse = c.args.purse.now } in
-    let x₀ : Setting m.Model = record { path = opened m.meaning m.afterMtu (m.model c.args.controller) c.args.opening; purse = c.args.purse.now } in
+    let x₀ : Setting m.Model = record { path = opened m.meaning m.after_mtu (m.model c.args.controller) c.args.opening; purse = c.args.purse.now } in
     let same : x ≡ x₀ = λ j. record { path = c.new-path.ensures j; purse = c.args.purse.now } in
     let all : length c.loop-step.steps ≤ c.loop-step.step-index = omega arith in
     let all' : length steps ≤ c.loop-step.step-index = omega arith in

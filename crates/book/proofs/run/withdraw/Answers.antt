@@ -1,4 +1,4 @@
-use Rattle.std.proofs.Common.{sym, ap, ◌∙◌}
+use Rattle.std.proofs.Common.{sym, ◌∙◌}
 use Rattle.book.specs.Requests.{rules}
 use Rattle.book.specs.Settings.{settled, restored}
 use Rattle.book.proofs.Purses.{withdrawn, performed}
@@ -9,8 +9,8 @@ returns g c =
     let m = g.C.Controller in
     let out = c.in-Some.ensures in
     let told = c.withdraw-answer.ensures in
-    performed (rules m.meaning m.afterSent m.afterAck m.afterEnd m.afterLoss m.afterMtu) _ _ _ _ _ _ _ _
-    (withdrawn (rules m.meaning m.afterSent m.afterAck m.afterEnd m.afterLoss m.afterMtu) _ c.args.place c.in-Some.permit (sym out.permit))
+    performed (rules m.meaning m.after_sent m.after_ack m.after_end m.after_loss m.after_mtu) _ _ _ _ _ _ _ _
+    (withdrawn (rules m.meaning m.after_sent m.after_ack m.after_end m.after_loss m.after_mtu) _ c.args.place c.in-Some.permit (sym out.permit))
     (c.settle.ensures.answer ∙ (λ j. settled (c.label-presented.ensures j) (told.answer j)))
     told.state
     (c.settle.ensures.purse ∙ (λ j. restored (out.purse j) c.args.place (told.answer j)))

@@ -7,5 +7,5 @@ returns c =
     record {
       number = refl;
       table = refl;
-      held = held_next c.args.self.now c.args.size c.args.time c.requires.0.0.0;
+      held = held_next c.args.self.now c.args.size c.args.time c.requires.sound.0.0;
     }

@@ -3,8 +3,8 @@ use Rattle.cells.specs.Sound.{Sound}
 use Rattle.cells.proofs.Steps.{acknowledged_sound}
 use Rattle.cells.proofs.tracker.Tracker.acknowledge.Goals as goal
 
-pub invariant-of-self : goal.invariant-of-self
-invariant-of-self c =
+pub invariant_of-self : goal.invariant_of-self
+invariant_of-self c =
     let before = c.args.self.now in
     let s = subst Sound (sym c.acknowledge.ensures.table) (acknowledged_sound before.table _ _ (before.summed, before.bounded)) in
-    (s.0, (s.1, tt))
+    record { summed = s.0; bounded = s.1 }

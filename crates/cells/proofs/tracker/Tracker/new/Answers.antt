@@ -2,7 +2,7 @@ use Rattle.std.proofs.Common.{arith}
 use Rattle.cells.proofs.Steps.{opened_sound}
 use Rattle.cells.proofs.tracker.Tracker.new.Goals as goal
 
-pub invariant-of-result : goal.invariant-of-result
-invariant-of-result c =
-    let s = opened_sound c.first-number-number.result c.mtu.result c.start.result (omega (arith, c.first-number-number.ensures, c.args.opening.now.number_within)) in
-    (s.0, (s.1, tt))
+pub invariant_of-result : goal.invariant_of-result
+invariant_of-result c =
+    let s = opened_sound c.first_number-number.result c.mtu.result c.start.result (omega (arith, c.first_number-number.ensures, c.args.opening.now.number_within)) in
+    record { summed = s.0; bounded = s.1 }
