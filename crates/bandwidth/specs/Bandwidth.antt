@@ -46,20 +46,17 @@ abbrev pub nothing : BandwidthEstimation
 nothing = record { acked = none_yet; sent = none_yet; max_filter = fresh 0; acked_at_last_window = 0 }
 
 abbrev pub sent_on : BandwidthEstimation → ℕ → ℕ → BandwidthEstimation
-sent_on b time n =
-    record { acked = b.acked; sent = added b.sent time n; max_filter = b.max_filter; acked_at_last_window = b.acked_at_last_window }
+sent_on b time n = record b { sent = added b.sent time n }
 
 abbrev pub acked_on : BandwidthEstimation → ℕ → ℕ → ℕ → Bool → BandwidthEstimation
 acked_on b time n round limited =
-    record {
+    record b {
       acked = added b.acked time n;
-      sent = b.sent;
       max_filter = noted (send_rate b.sent) (ack_rate (added b.acked time n) time) limited round b.max_filter;
-      acked_at_last_window = b.acked_at_last_window;
     }
 
 abbrev pub closed : BandwidthEstimation → BandwidthEstimation
-closed b = record { acked = b.acked; sent = b.sent; max_filter = b.max_filter; acked_at_last_window = b.acked.bytes }
+closed b = record b { acked_at_last_window = b.acked.bytes }
 
 abbrev pub acked_in_window : BandwidthEstimation → ℕ
 acked_in_window b = b.acked.bytes - b.acked_at_last_window

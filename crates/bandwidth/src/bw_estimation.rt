@@ -6,7 +6,7 @@ ghost use Rattle.bandwidth.specs.Bandwidth.{none_yet, nothing, added, per_second
 use filter::min_max::MinMax;
 
 // A running total of bytes: its last two values, and when each was reached.
-#[derive(Clone, Copy)]
+#[derive(Clone, Copy, Default)]
 pub struct RunningTotal {
     bytes: u64,
     prev_bytes: u64,
@@ -14,7 +14,7 @@ pub struct RunningTotal {
     prev_time: Option<u64>,
 }
 
-#[derive(Clone, Copy)]
+#[derive(Clone, Copy, Default)]
 pub struct BandwidthEstimation {
     acked: RunningTotal,
     sent: RunningTotal,
@@ -28,10 +28,7 @@ const NANOS_PER_SEC: u64 = 1_000_000_000;
 pub fn bw_from_delta(bytes: u64, delta: u64) -> Option<u64>
     ensures { result ≡ per_second bytes delta }
 {
-    if delta == 0 {
-        return None;
-    }
-    Some(bytes.saturating_mul(NANOS_PER_SEC) / delta)
+    bytes.saturating_mul(NANOS_PER_SEC).checked_div(delta)
 }
 
 impl RunningTotal {
@@ -39,12 +36,7 @@ impl RunningTotal {
     pub fn new() -> RunningTotal
         ensures { result ≡ none_yet }
     {
-        RunningTotal {
-            bytes: 0,
-            prev_bytes: 0,
-            time: None,
-            prev_time: None,
-        }
+        RunningTotal::default()
     }
 
     fn add(&mut self, time: u64, bytes: u64)
@@ -72,23 +64,20 @@ impl RunningTotal {
     fn send_rate(&self) -> Option<u64>
         ensures { result ≡ send_rate self.now }
     {
-        match (self.prev_time, self.time) {
-            (None, _) => None,
-            (Some(prev), Some(time)) if time > prev => {
-                Some(bw_from_delta(self.last(), time - prev).unwrap_or(0))
-            }
+        let prev = self.prev_time?;
+        Some(match self.time {
+            Some(time) if time > prev => bw_from_delta(self.last(), time - prev).unwrap_or(0),
             // The lesser of two rates is taken, so this one does not count.
-            (Some(_), _) => Some(u64::MAX),
-        }
+            _ => u64::MAX,
+        })
     }
 
     fn ack_rate(&self, time: u64) -> u64
         ensures { result ≡ ack_rate self.now time }
     {
-        match self.prev_time {
-            Some(prev) => bw_from_delta(self.last(), time.saturating_sub(prev)).unwrap_or(0),
-            None => 0,
-        }
+        self.prev_time
+            .and_then(|prev| bw_from_delta(self.last(), time.saturating_sub(prev)))
+            .unwrap_or(0)
     }
 }
 
@@ -96,12 +85,7 @@ impl BandwidthEstimation {
     pub fn new() -> BandwidthEstimation
         ensures { result ≡ nothing }
     {
-        BandwidthEstimation {
-            acked: RunningTotal::new(),
-            sent: RunningTotal::new(),
-            max_filter: MinMax::new(),
-            acked_at_last_window: 0,
-        }
+        BandwidthEstimation::default()
     }
 
     pub fn on_sent(&mut self, time: u64, bytes: u64)
@@ -136,6 +120,7 @@ impl BandwidthEstimation {
     }
 
     // The greatest rate so far. It never falls, whatever calls follow.
+    #[tactic(auto, using(crate::proofs::Rises::rises))]
     pub fn get_estimate(&self) -> u64
         ensures value { result ≡ estimate self.now }
         ensures never_falls { (calls : List Call) → result ≤ estimate (after calls self.now) }

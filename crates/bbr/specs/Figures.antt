@@ -3,11 +3,11 @@ use Rattle.std.specs.Prelude.{◌≡◌, ℕ, false}
 use Rattle.bandwidth.specs.Bandwidth.{estimate}
 use Rattle.bbr_rounds.specs.Aggregation.{unaggregated, expected, excess, aggregated}
 use Rattle.bbr_rounds.specs.declared.ack_aggregation.AckAggregationState.{AckAggregationState}
+use Rattle.bbr_rounds.specs.Recovery.{unharmed}
 use Rattle.bbr_rounds.specs.declared.recovery.RecoveryState.TheVariants.{Conservation}
 use Rattle.bbr_calls.specs.Calls.{window_of, told_sent, told_ack, told_mtu}
 use Rattle.bbr_state.specs.Cycle.{offset_of}
 use Rattle.bbr_state.specs.Gains.{unit_gain, high_gain}
-use Rattle.bbr_state.specs.Groups.{with_phase, with_recovery}
 use Rattle.bbr_state.specs.Makers.{opened}
 use Rattle.bbr_calls.specs.Modes.{in_mode}
 use Rattle.bbr_state.specs.Targets.{target}
@@ -23,8 +23,10 @@ slow =
 -- cruising in recovery, with a window of 4,800 there and a larger one elsewhere
 abbrev pub recovering : BbrState
 recovering =
-    with_recovery (with_phase (opened 240000 1200) (in_mode (opened 240000 1200).phase ProbeBw high_gain high_gain))
-    (record { recovery_state = Conservation; recovery_window = 4800; lost_bytes = 0; end_recovery_at_packet_number = 0 })
+    record (opened 240000 1200) {
+      phase = in_mode (opened 240000 1200).phase ProbeBw high_gain high_gain;
+      recovery = record unharmed { recovery_state = Conservation; recovery_window = 4800 };
+    }
 
 -- n bytes acknowledged at 50,000,001, where the bandwidth is 1,200 bytes a nanosecond
 abbrev pub fast : ℕ → AckAggregationState

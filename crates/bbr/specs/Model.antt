@@ -6,6 +6,7 @@ use Rattle.values.specs.Saturating.{product}
 use Rattle.rtt.specs.Estimates.{Estimate}
 use Rattle.congestion.specs.Makers.{nothing}
 use Rattle.congestion.specs.Meaning.{Meaning, add_sent, add_acked, add_lost}
+use Rattle.congestion.specs.Rules.{Rules}
 use Rattle.congestion.specs.declared.metrics.ControllerMetrics.{ControllerMetrics}
 use Rattle.congestion.specs.declared.totals.Totals.{Totals}
 use Rattle.bbr_calls.specs.Calls.{window_of, told_sent, told_ack, told_loss, told_mtu, ended, ended_draws}
@@ -39,23 +40,35 @@ abbrev pub opened_with : {M : Type 0} → ℕ → ℕ → M → BbrModel M
 opened_with w mtu m = record { state = opened w mtu; draws = m; totals = nothing }
 
 abbrev pub bbr_sent : {M : Type 0} → BbrModel M → ℕ → ℕ → ℕ → BbrModel M
-bbr_sent x time n last =
-    record { state = told_sent x.state time n last; draws = x.draws; totals = add_sent x.totals n }
+bbr_sent x time n last = record x { state = told_sent x.state time n last; totals = add_sent x.totals n }
 
 abbrev pub bbr_ack : {M : Type 0} → BbrModel M → ℕ → ℕ → ℕ → Bool → Estimate → BbrModel M
 bbr_ack x time _ n limited e =
-    record { state = told_ack x.state time n limited e.minimum; draws = x.draws; totals = add_acked x.totals n }
+    record x { state = told_ack x.state time n limited e.minimum; totals = add_acked x.totals n }
 
 abbrev pub bbr_end : {M : Type 0} → (M → ℕ) → (M → M) → BbrModel M → ℕ → ℕ → Bool → Option ℕ → BbrModel M
 bbr_end next after x time flight limited largest =
-    record {
+    record x {
       state = ended next after x.state x.draws time flight limited largest;
       draws = ended_draws next after x.state x.draws time flight limited largest;
-      totals = x.totals;
     }
 
 abbrev pub bbr_loss : {M : Type 0} → BbrModel M → ℕ → ℕ → Bool → ℕ → BbrModel M
-bbr_loss x _ _ _ n = record { state = told_loss x.state n; draws = x.draws; totals = add_lost x.totals n }
+bbr_loss x _ _ _ n = record x { state = told_loss x.state n; totals = add_lost x.totals n }
 
 abbrev pub bbr_mtu : {M : Type 0} → BbrModel M → ℕ → BbrModel M
-bbr_mtu x mtu = record { state = told_mtu x.state mtu; draws = x.draws; totals = x.totals }
+bbr_mtu x mtu = record x { state = told_mtu x.state mtu }
+
+-- with a source's next draw and the source after it
+abbrev pub bbr_rules : {M : Type 0} → (M → ℕ) → (M → M) → Rules (BbrModel M)
+bbr_rules next after =
+    record {
+      meaning = bbr_meaning;
+      metrics = bbr_metrics;
+      initial = λ x. x.state.limits.initial_window;
+      sends = bbr_sent;
+      acks = bbr_ack;
+      ends = bbr_end next after;
+      loses = bbr_loss;
+      resizes = bbr_mtu;
+    }

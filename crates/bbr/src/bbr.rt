@@ -18,7 +18,7 @@ pub struct Bbr<D> {
     ghost held: { Held state.recovery },
 }
 
-// Not derived, since the struct has a type parameter and ghost fields.
+// Not derived: a derived clone promises of its source of draws no more than the source's own clone does, and this one is the same value.
 impl<D: Copy> Copy for Bbr<D> {}
 
 impl<D: Copy> Clone for Bbr<D> {

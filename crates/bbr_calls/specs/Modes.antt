@@ -9,7 +9,6 @@ use Rattle.std.specs.Prelude.{ℕ, ◌-◌, Bool, true, false, cond, not, ◌&&�
 use Rattle.values.specs.Saturating.{sum}
 use Rattle.bbr_state.specs.Tests.{is_startup, is_drain, is_probe_rtt}
 use Rattle.bbr_state.specs.Gains.{unit_gain}
-use Rattle.bbr_state.specs.Groups.{with_phase, with_probe}
 use Rattle.bbr_state.specs.Targets.{target, probe_target}
 use Rattle.bbr_state.specs.Cycle.{cruising, offset_of}
 use Rattle.bbr_state.specs.declared.state.BbrState.{BbrState}
@@ -25,35 +24,29 @@ taken after drawn m = cond drawn (after m) m
 
 -- another mode with its gains, at the same place of the cycle
 abbrev pub in_mode : Phase → Mode → Float → Float → Phase
-in_mode p m pacing cwnd =
-    record {
-      mode = m;
-      pacing_gain = pacing;
-      cwnd_gain = cwnd;
-      last_cycle_start = p.last_cycle_start;
-      current_cycle_offset = p.current_cycle_offset;
-    }
+in_mode p m pacing cwnd = record p { mode = m; pacing_gain = pacing; cwnd_gain = cwnd }
 
 abbrev pub starting : HighGains → Phase → Phase
 starting g p = in_mode p Startup g.high_gain g.high_cwnd_gain
 
 abbrev pub started : BbrState → BbrState
-started s = with_phase s (starting s.gains s.phase)
+started s = record s { phase = starting s.gains s.phase }
 
 abbrev pub leaves_startup : BbrState → Bool
 leaves_startup s = is_startup s.phase.mode && s.growth.is_at_full_bandwidth
 
 abbrev pub drained : BbrState → BbrState
 drained s =
-    with_phase s
-    (cond (leaves_startup s) (in_mode s.phase Drain s.gains.drain_gain s.gains.high_cwnd_gain) s.phase)
+    record s {
+      phase = cond (leaves_startup s) (in_mode s.phase Drain s.gains.drain_gain s.gains.high_cwnd_gain) s.phase;
+    }
 
 abbrev pub leaves_drain : BbrState → ℕ → Bool
 leaves_drain s flight = is_drain s.phase.mode && nat_le flight (target s unit_gain)
 
 -- d is the next draw
 abbrev pub drain_left : BbrState → ℕ → ℕ → ℕ → BbrState
-drain_left s time flight d = with_phase s (cond (leaves_drain s flight) (cruising time (offset_of d)) s.phase)
+drain_left s time flight d = record s { phase = cond (leaves_drain s flight) (cruising time (offset_of d)) s.phase }
 
 abbrev pub startup_left : BbrState → ℕ → ℕ → ℕ → BbrState
 startup_left s time flight d = drain_left (drained s) time flight d
@@ -70,13 +63,14 @@ probes s time limited =
     is_expired s time limited && not s.rtt_probe.exiting_quiescence && not (is_probe_rtt s.phase.mode)
 
 abbrev pub begun : RttProbe → ℕ → RttProbe
-begun p time =
-    record { exit_probe_rtt_at = None; probe_rtt_last_started_at = Some time; exiting_quiescence = p.exiting_quiescence }
+begun p time = record p { exit_probe_rtt_at = None; probe_rtt_last_started_at = Some time }
 
 abbrev pub probe_entered : BbrState → ℕ → Bool → BbrState
 probe_entered s time limited =
-    with_probe (with_phase s (cond (probes s time limited) (in_mode s.phase ProbeRtt unit_gain s.phase.cwnd_gain) s.phase))
-    (cond (probes s time limited) (begun s.rtt_probe time) s.rtt_probe)
+    record s {
+      phase = cond (probes s time limited) (in_mode s.phase ProbeRtt unit_gain s.phase.cwnd_gain) s.phase;
+      rtt_probe = cond (probes s time limited) (begun s.rtt_probe time) s.rtt_probe;
+    }
 
 -- a round begins at the exit time or later
 abbrev pub is_due : Mode → Option ℕ → ℕ → Bool → Bool
@@ -103,9 +97,11 @@ is_small s flight = nat_lt flight (sum (probe_target s) s.limits.current_mtu)
 
 abbrev pub probe_left : BbrState → ℕ → Bool → ℕ → ℕ → BbrState
 probe_left s time starts flight d =
-    with_probe (with_phase s (cond (is_done s time starts) (resumed s time d) s.phase))
-    (record {
-      exit_probe_rtt_at = exit_time s.phase.mode s.rtt_probe.exit_probe_rtt_at time (is_small s flight);
-      probe_rtt_last_started_at = s.rtt_probe.probe_rtt_last_started_at;
-      exiting_quiescence = false;
-    })
+    record s {
+      phase = cond (is_done s time starts) (resumed s time d) s.phase;
+      rtt_probe =
+          record s.rtt_probe {
+            exit_probe_rtt_at = exit_time s.phase.mode s.rtt_probe.exit_probe_rtt_at time (is_small s flight);
+            exiting_quiescence = false;
+          };
+    }

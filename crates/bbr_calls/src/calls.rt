@@ -69,16 +69,22 @@ pub fn on_mtu_update(state: &mut BbrState, new_mtu: u16)
     ensures { state.new ≡ told_mtu state.old new_mtu }
 {
     let min_cwnd = calculate_min_window(new_mtu);
-    state.limits.current_mtu = new_mtu as u64;
+    state.limits.current_mtu = u64::from(new_mtu);
     state.limits.min_cwnd = min_cwnd;
     state.limits.init_cwnd = state.limits.initial_window.max(min_cwnd);
     state.flow.cwnd = state.flow.cwnd.max(min_cwnd);
 }
 
-// What the acks since the last batch came to.
-fn measure(state: &mut BbrState, time: u64, largest_packet_num_acked: Option<u64>) -> AckBatch
+// What the acks since the last batch came to. Here alone the four come one by one, as the trait's call has them.
+fn measure(
+    state: &mut BbrState,
+    time: u64,
+    in_flight: u64,
+    app_limited: bool,
+    largest_packet_num_acked: Option<u64>,
+) -> AckBatch
     ensures state { state.new ≡ measured state.old time largest_packet_num_acked }
-    ensures answer { result ≡ batch_of state.old time largest_packet_num_acked }
+    ensures answer { result ≡ batch_of state.old time in_flight app_limited largest_packet_num_acked }
 {
     let bytes_acked = state.max_bandwidth.bytes_acked_this_window();
     let excess_acked = state.ack_aggregation.update_ack_aggregation_bytes(
@@ -90,80 +96,70 @@ fn measure(state: &mut BbrState, time: u64, largest_packet_num_acked: Option<u64
     state.max_bandwidth.end_acks();
     let is_round_start = state.rounds.end_acks(bytes_acked, largest_packet_num_acked);
     AckBatch {
+        time,
+        in_flight,
+        app_limited,
         bytes_acked,
         excess_acked,
         is_round_start,
     }
 }
 
-fn advance_gain_cycle(state: &mut BbrState, time: u64, in_flight: u64)
-    ensures { state.new ≡ gain_cycled state.old time in_flight }
+fn advance_gain_cycle(state: &mut BbrState, batch: &AckBatch)
+    ensures { state.new ≡ gain_cycled state.old batch.now.time batch.now.in_flight }
 {
     if state.phase.mode == Mode::ProbeBw {
-        state.update_gain_cycle_phase(time, in_flight);
+        state.update_gain_cycle_phase(batch);
     }
 }
 
-fn check_growth(state: &mut BbrState, is_round_start: bool, app_limited: bool)
-    ensures { state.new ≡ growth_checked state.old is_round_start app_limited }
+fn check_growth(state: &mut BbrState, batch: &AckBatch)
+    ensures { state.new ≡ growth_checked state.old batch.now.is_round_start batch.now.app_limited }
 {
-    if is_round_start && !state.growth.is_at_full_bandwidth {
-        state.check_if_full_bw_reached(app_limited);
+    if batch.is_round_start && !state.growth.is_at_full_bandwidth {
+        state.check_if_full_bw_reached(batch.app_limited);
     }
 }
 
 // Recovery, the gain cycle and the growth of the bandwidth.
-fn update_model(
-    state: &mut BbrState,
-    time: u64,
-    in_flight: u64,
-    app_limited: bool,
-    is_round_start: bool,
-)
-    ensures { state.new ≡ modelled state.old time in_flight app_limited is_round_start }
+fn update_model(state: &mut BbrState, batch: &AckBatch)
+    ensures { state.new ≡ modelled state.old batch.now }
 {
     state
         .recovery
-        .update_recovery_state(&mut state.rounds, is_round_start);
-    advance_gain_cycle(state, time, in_flight);
-    check_growth(state, is_round_start, app_limited);
+        .update_recovery_state(&mut state.rounds, batch.is_round_start);
+    advance_gain_cycle(state, batch);
+    check_growth(state, batch);
 }
 
-fn change_mode<D: DrawSource>(
-    state: &mut BbrState,
-    time: u64,
-    in_flight: u64,
-    app_limited: bool,
-    is_round_start: bool,
-    draws: &mut D,
-)
-    ensures state { state.new ≡ moved D.next_draw D.after_draw state.old (D.model draws.old) time in_flight app_limited is_round_start }
-    ensures drawn { D.model draws.new ≡ left_draws D.next_draw D.after_draw state.old (D.model draws.old) time in_flight app_limited is_round_start }
+fn change_mode<D: DrawSource>(state: &mut BbrState, batch: &AckBatch, draws: &mut D)
+    ensures state { state.new ≡ moved D.next_draw D.after_draw state.old (D.model draws.old) batch.now }
+    ensures drawn { D.model draws.new ≡ left_draws D.next_draw D.after_draw state.old (D.model draws.old) batch.now }
 {
-    maybe_exit_startup_or_drain(state, time, in_flight, draws);
-    maybe_enter_or_exit_probe_rtt(state, time, is_round_start, in_flight, app_limited, draws);
+    maybe_exit_startup_or_drain(state, batch, draws);
+    maybe_enter_or_exit_probe_rtt(state, batch, draws);
 }
 
-fn settle(state: &mut BbrState, in_flight: u64)
-    ensures { state.new ≡ settled state.old in_flight }
+fn settle(state: &mut BbrState, batch: &AckBatch)
+    ensures { state.new ≡ settled state.old batch.now.in_flight }
 {
-    state.flow.prev_in_flight_count = in_flight;
+    state.flow.prev_in_flight_count = batch.in_flight;
     state.recovery.lost_bytes = 0;
 }
 
 // The pacing rate and the windows, after the model.
-fn resize(state: &mut BbrState, bytes_acked: u64, excess_acked: u64, in_flight: u64)
-    ensures { state.new ≡ resized state.old bytes_acked excess_acked in_flight }
+fn resize(state: &mut BbrState, batch: &AckBatch)
+    ensures { state.new ≡ resized state.old batch.now }
 {
     state.calculate_pacing_rate();
-    state.calculate_cwnd(bytes_acked, excess_acked);
+    state.calculate_cwnd(batch);
     state.recovery.calculate_recovery_window(
         state.limits.current_mtu,
         state.limits.min_cwnd,
-        bytes_acked,
-        in_flight,
+        batch.bytes_acked,
+        batch.in_flight,
     );
-    settle(state, in_flight);
+    settle(state, batch);
 }
 
 /// A batch of acks has ended, with `in_flight` bytes still in flight.
@@ -179,17 +175,16 @@ pub fn on_end_acks<D: DrawSource>(
     ensures drawn { D.model draws.new ≡ ended_draws D.next_draw D.after_draw state.old (D.model draws.old) time in_flight app_limited largest_packet_num_acked }
     ensures kept { bandwidth state.new ≡ bandwidth state.old }
     ensures first { NeverProbed state.old → is_probe_rtt state.new.phase.mode ≡ not app_limited }
-    ensures order { Follows state.new.growth.is_at_full_bandwidth (is_expired state.old time app_limited) state.old.rtt_probe.exit_probe_rtt_at time (batch_of state.old time largest_packet_num_acked).is_round_start state.old.phase.mode state.new.phase.mode }
+    ensures order { Follows state.new.growth.is_at_full_bandwidth (is_expired state.old time app_limited) state.old.rtt_probe.exit_probe_rtt_at time (batch_of state.old time in_flight app_limited largest_packet_num_acked).is_round_start state.old.phase.mode state.new.phase.mode }
 {
-    let batch = measure(state, time, largest_packet_num_acked);
-    update_model(state, time, in_flight, app_limited, batch.is_round_start);
-    change_mode(
+    let batch = measure(
         state,
         time,
         in_flight,
         app_limited,
-        batch.is_round_start,
-        draws,
+        largest_packet_num_acked,
     );
-    resize(state, batch.bytes_acked, batch.excess_acked, in_flight);
+    update_model(state, &batch);
+    change_mode(state, &batch, draws);
+    resize(state, &batch);
 }

@@ -3,7 +3,7 @@ ghost use Rattle.std.specs.Prelude.{◌≡◌};
 ghost use Rattle.bbr_calls.specs.ModeOrder.{Leaves, Probes};
 ghost use Rattle.bbr_calls.specs.Modes.{is_done, started, drained, leaves_drain, drain_left, startup_left, is_expired, probe_entered, probe_left, resumes, taken};
 
-use bbr_state::state::{BbrState, Mode};
+use bbr_state::state::{AckBatch, BbrState, Mode};
 use draws::source::DrawSource;
 
 // How long the minimum RTT is measured at least: 200 ms.
@@ -25,39 +25,35 @@ pub fn enter_startup_mode(state: &mut BbrState)
 fn maybe_exit_startup(state: &mut BbrState)
     ensures { state.new ≡ drained state.old }
 {
-    match (state.phase.mode, state.growth.is_at_full_bandwidth) {
-        (Mode::Startup, true) => {
-            state.phase.mode = Mode::Drain;
-            state.phase.pacing_gain = state.gains.drain_gain;
-            state.phase.cwnd_gain = state.gains.high_cwnd_gain;
-        }
-        _ => {}
+    if state.phase.mode == Mode::Startup && state.growth.is_at_full_bandwidth {
+        state.phase.mode = Mode::Drain;
+        state.phase.pacing_gain = state.gains.drain_gain;
+        state.phase.cwnd_gain = state.gains.high_cwnd_gain;
     }
 }
 
 // From drain to cruising, when the queue is empty.
-fn maybe_exit_drain<D: DrawSource>(state: &mut BbrState, time: u64, in_flight: u64, draws: &mut D)
-    ensures state { state.new ≡ drain_left state.old time in_flight (D.next_draw (D.model draws.old)) }
-    ensures drawn { D.model draws.new ≡ taken D.after_draw (leaves_drain state.old in_flight) (D.model draws.old) }
+fn maybe_exit_drain<D: DrawSource>(state: &mut BbrState, batch: &AckBatch, draws: &mut D)
+    ensures state { state.new ≡ drain_left state.old batch.now.time batch.now.in_flight (D.next_draw (D.model draws.old)) }
+    ensures drawn { D.model draws.new ≡ taken D.after_draw (leaves_drain state.old batch.now.in_flight) (D.model draws.old) }
 {
-    if state.phase.mode == Mode::Drain && in_flight <= state.get_target_cwnd(1.0) {
-        state.enter_probe_bandwidth_mode(time, draws);
+    if state.phase.mode == Mode::Drain && batch.in_flight <= state.get_target_cwnd(1.0) {
+        state.enter_probe_bandwidth_mode(batch.time, draws);
     }
 }
 
 /// Leaves startup at the full bandwidth, and drain once the queue is empty.
 pub fn maybe_exit_startup_or_drain<D: DrawSource>(
     state: &mut BbrState,
-    time: u64,
-    in_flight: u64,
+    batch: &AckBatch,
     draws: &mut D,
 )
-    ensures state { state.new ≡ startup_left state.old time in_flight (D.next_draw (D.model draws.old)) }
-    ensures drawn { D.model draws.new ≡ taken D.after_draw (leaves_drain (drained state.old) in_flight) (D.model draws.old) }
+    ensures state { state.new ≡ startup_left state.old batch.now.time batch.now.in_flight (D.next_draw (D.model draws.old)) }
+    ensures drawn { D.model draws.new ≡ taken D.after_draw (leaves_drain (drained state.old) batch.now.in_flight) (D.model draws.old) }
     ensures order { Leaves state.old.growth.is_at_full_bandwidth state.old.phase.mode state.new.phase.mode }
 {
     maybe_exit_startup(state);
-    maybe_exit_drain(state, time, in_flight, draws);
+    maybe_exit_drain(state, batch, draws);
 }
 
 /// Whether the minimum RTT is to be measured again: the application is not the limit, and it was last measured
@@ -65,16 +61,17 @@ pub fn maybe_exit_startup_or_drain<D: DrawSource>(
 pub fn is_min_rtt_expired(state: &BbrState, time: u64, app_limited: bool) -> bool
     ensures { result ≡ is_expired state.now time app_limited }
 {
-    match state.rtt_probe.probe_rtt_last_started_at {
-        Some(last) => !app_limited && time.saturating_sub(last) > MIN_RTT_EXPIRY,
-        None => !app_limited,
-    }
+    !app_limited
+        && state
+            .rtt_probe
+            .probe_rtt_last_started_at
+            .is_none_or(|last| time.saturating_sub(last) > MIN_RTT_EXPIRY)
 }
 
-fn maybe_enter_probe_rtt(state: &mut BbrState, time: u64, app_limited: bool)
-    ensures { state.new ≡ probe_entered state.old time app_limited }
+fn maybe_enter_probe_rtt(state: &mut BbrState, batch: &AckBatch)
+    ensures { state.new ≡ probe_entered state.old batch.now.time batch.now.app_limited }
 {
-    if is_min_rtt_expired(state, time, app_limited)
+    if is_min_rtt_expired(state, batch.time, batch.app_limited)
         && !state.rtt_probe.exiting_quiescence
         && state.phase.mode != Mode::ProbeRtt
     {
@@ -82,19 +79,13 @@ fn maybe_enter_probe_rtt(state: &mut BbrState, time: u64, app_limited: bool)
         state.phase.pacing_gain = 1.0;
         // The time to exit is decided once little enough is in flight.
         state.rtt_probe.exit_probe_rtt_at = None;
-        state.rtt_probe.probe_rtt_last_started_at = Some(time);
+        state.rtt_probe.probe_rtt_last_started_at = Some(batch.time);
     }
 }
 
-fn maybe_exit_probe_rtt<D: DrawSource>(
-    state: &mut BbrState,
-    time: u64,
-    is_round_start: bool,
-    bytes_in_flight: u64,
-    draws: &mut D,
-)
-    ensures state { state.new ≡ probe_left state.old time is_round_start bytes_in_flight (D.next_draw (D.model draws.old)) }
-    ensures drawn { D.model draws.new ≡ taken D.after_draw (resumes state.old time is_round_start) (D.model draws.old) }
+fn maybe_exit_probe_rtt<D: DrawSource>(state: &mut BbrState, batch: &AckBatch, draws: &mut D)
+    ensures state { state.new ≡ probe_left state.old batch.now.time batch.now.is_round_start batch.now.in_flight (D.next_draw (D.model draws.old)) }
+    ensures drawn { D.model draws.new ≡ taken D.after_draw (resumes state.old batch.now.time batch.now.is_round_start) (D.model draws.old) }
 {
     match (state.phase.mode, state.rtt_probe.exit_probe_rtt_at) {
         (Mode::ProbeRtt, None) => {
@@ -102,13 +93,15 @@ fn maybe_exit_probe_rtt<D: DrawSource>(
             let small = state
                 .get_probe_rtt_cwnd()
                 .saturating_add(state.limits.current_mtu);
-            if bytes_in_flight < small {
-                state.rtt_probe.exit_probe_rtt_at = Some(time.saturating_add(K_PROBE_RTT_TIME));
+            if batch.in_flight < small {
+                state.rtt_probe.exit_probe_rtt_at = Some(
+                    batch.time.saturating_add(K_PROBE_RTT_TIME),
+                );
             }
         }
-        (Mode::ProbeRtt, Some(exit_time)) if is_round_start && time >= exit_time => {
+        (Mode::ProbeRtt, Some(exit_time)) if batch.is_round_start && batch.time >= exit_time => {
             if state.growth.is_at_full_bandwidth {
-                state.enter_probe_bandwidth_mode(time, draws);
+                state.enter_probe_bandwidth_mode(batch.time, draws);
             } else {
                 enter_startup_mode(state);
             }
@@ -122,16 +115,13 @@ fn maybe_exit_probe_rtt<D: DrawSource>(
 #[tactic(auto, using(crate::proofs::Order::probes_by))]
 pub fn maybe_enter_or_exit_probe_rtt<D: DrawSource>(
     state: &mut BbrState,
-    time: u64,
-    is_round_start: bool,
-    bytes_in_flight: u64,
-    app_limited: bool,
+    batch: &AckBatch,
     draws: &mut D,
 )
-    ensures state { state.new ≡ probe_left (probe_entered state.old time app_limited) time is_round_start bytes_in_flight (D.next_draw (D.model draws.old)) }
-    ensures drawn { D.model draws.new ≡ taken D.after_draw (resumes (probe_entered state.old time app_limited) time is_round_start) (D.model draws.old) }
-    ensures order { Probes state.old.growth.is_at_full_bandwidth (is_expired state.old time app_limited) (is_done state.old time is_round_start) state.old.phase.mode state.new.phase.mode }
+    ensures state { state.new ≡ probe_left (probe_entered state.old batch.now.time batch.now.app_limited) batch.now.time batch.now.is_round_start batch.now.in_flight (D.next_draw (D.model draws.old)) }
+    ensures drawn { D.model draws.new ≡ taken D.after_draw (resumes (probe_entered state.old batch.now.time batch.now.app_limited) batch.now.time batch.now.is_round_start) (D.model draws.old) }
+    ensures order { Probes state.old.growth.is_at_full_bandwidth (is_expired state.old batch.now.time batch.now.app_limited) (is_done state.old batch.now.time batch.now.is_round_start) state.old.phase.mode state.new.phase.mode }
 {
-    maybe_enter_probe_rtt(state, time, app_limited);
-    maybe_exit_probe_rtt(state, time, is_round_start, bytes_in_flight, draws);
+    maybe_enter_probe_rtt(state, batch);
+    maybe_exit_probe_rtt(state, batch, draws);
 }

@@ -32,9 +32,8 @@ excess a n time bandwidth = cond (is_over a time bandwidth) 0 (ahead a n time ba
 abbrev pub aggregated : AckAggregationState → ℕ → ℕ → ℕ → ℕ → AckAggregationState
 aggregated a n time round bandwidth =
     cond (is_over a time bandwidth)
-    (record { max_ack_height = a.max_ack_height; aggregation_epoch_start_time = Some time; aggregation_epoch_bytes = n })
-    (record {
+    (record a { aggregation_epoch_start_time = Some time; aggregation_epoch_bytes = n })
+    (record a {
       max_ack_height = updated leb 0 a.max_ack_height round (ahead a n time bandwidth);
-      aggregation_epoch_start_time = a.aggregation_epoch_start_time;
       aggregation_epoch_bytes = sum a.aggregation_epoch_bytes n;
     })

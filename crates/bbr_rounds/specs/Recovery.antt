@@ -43,21 +43,17 @@ end_at r n = cond (is_lossy r) n.max_sent_packet_number r.end_recovery_at_packet
 -- where recovery begins the window is 0 until the batch's acks are counted
 abbrev pub recovered : Recovery → Rounds → Bool → Recovery
 recovered r n starts =
-    record {
+    record r {
       recovery_state = next_state r.recovery_state (is_lossy r) starts (nat_lt (end_at r n) n.max_acked_packet_number);
       recovery_window = cond (is_entered r.recovery_state (is_lossy r)) 0 r.recovery_window;
-      lost_bytes = r.lost_bytes;
       end_recovery_at_packet_number = end_at r n;
     }
 
 abbrev pub extended : Recovery → Rounds → Rounds
 extended r n =
-    record {
-      max_acked_packet_number = n.max_acked_packet_number;
-      max_sent_packet_number = n.max_sent_packet_number;
+    record n {
       current_round_trip_end_packet_number =
           cond (is_entered r.recovery_state (is_lossy r)) n.max_sent_packet_number n.current_round_trip_end_packet_number;
-      round_count = n.round_count;
     }
 
 -- the window without the bytes lost, or a datagram
@@ -79,20 +75,8 @@ window_after r mtu least acked flight =
     r.recovery_window
 
 abbrev pub resized : Recovery → ℕ → ℕ → ℕ → ℕ → Recovery
-resized r mtu least acked flight =
-    record {
-      recovery_state = r.recovery_state;
-      recovery_window = window_after r mtu least acked flight;
-      lost_bytes = r.lost_bytes;
-      end_recovery_at_packet_number = r.end_recovery_at_packet_number;
-    }
+resized r mtu least acked flight = record r { recovery_window = window_after r mtu least acked flight }
 
 -- more bytes lost
 abbrev pub losing : Recovery → ℕ → Recovery
-losing r n =
-    record {
-      recovery_state = r.recovery_state;
-      recovery_window = r.recovery_window;
-      lost_bytes = n;
-      end_recovery_at_packet_number = r.end_recovery_at_packet_number;
-    }
+losing r n = record r { lost_bytes = n }

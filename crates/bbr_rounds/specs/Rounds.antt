@@ -13,13 +13,7 @@ unsent =
 
 -- the number told last as sent
 abbrev pub sent_up_to : Rounds → ℕ → Rounds
-sent_up_to r n =
-    record {
-      max_acked_packet_number = r.max_acked_packet_number;
-      max_sent_packet_number = n;
-      current_round_trip_end_packet_number = r.current_round_trip_end_packet_number;
-      round_count = r.round_count;
-    }
+sent_up_to r n = record r { max_sent_packet_number = n }
 
 -- a batch of n bytes, with the greatest number acknowledged, if there is one
 abbrev pub begins : Rounds → ℕ → Option ℕ → Bool
@@ -28,9 +22,8 @@ begins r n largest =
 
 abbrev pub after_acks : Rounds → ℕ → Option ℕ → Rounds
 after_acks r n largest =
-    record {
+    record r {
       max_acked_packet_number = unwrap_or largest r.max_acked_packet_number;
-      max_sent_packet_number = r.max_sent_packet_number;
       current_round_trip_end_packet_number =
           cond (begins r n largest) r.max_sent_packet_number r.current_round_trip_end_packet_number;
       round_count = cond (begins r n largest) (sum r.round_count 1) r.round_count;

@@ -5,7 +5,7 @@ ghost use Rattle.bbr_rounds.specs.Aggregation.{unaggregated, expected, excess, a
 use filter::min_max::MinMax;
 
 /// The bytes of the present epoch of acks, and how far acks were ahead of the bandwidth in the last rounds.
-#[derive(Clone, Copy)]
+#[derive(Clone, Copy, Default)]
 pub struct AckAggregationState {
     /// The greatest excess of the last rounds.
     pub max_ack_height: MinMax<u64>,
@@ -20,11 +20,7 @@ impl AckAggregationState {
     pub fn new() -> AckAggregationState
         ensures { result ≡ unaggregated }
     {
-        AckAggregationState {
-            max_ack_height: MinMax::new(),
-            aggregation_epoch_start_time: None,
-            aggregation_epoch_bytes: 0,
-        }
+        AckAggregationState::default()
     }
 
     // The bytes that the bandwidth delivers since the epoch began.

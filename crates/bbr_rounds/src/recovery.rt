@@ -5,9 +5,10 @@ ghost use Rattle.bbr_rounds.specs.Recovery.{unharmed, is_in, is_lossy, recovered
 use crate::rounds::Rounds;
 
 /// How the bytes in flight are limited after a loss.
-#[derive(Clone, Copy, PartialEq, Eq)]
+#[derive(Clone, Copy, Debug, Default, PartialEq, Eq)]
 pub enum RecoveryState {
     /// Not at all.
+    #[default]
     NotInRecovery,
     /// One byte more for each byte acknowledged.
     Conservation,
@@ -28,10 +29,11 @@ impl RecoveryState {
 }
 
 /// The losses of the present batch of acks, and the recovery from those before.
-#[derive(Clone, Copy)]
+#[derive(Clone, Copy, Default)]
 pub struct Recovery {
     pub recovery_state: RecoveryState,
-    /// The window in recovery.
+    /// The window in recovery. At its entry it is 0 until `calculate_recovery_window` sets it: a window and no mark, since the
+    /// crate's window is 0 then, too.
     pub recovery_window: u64,
     /// Bytes lost since the last batch of acks ended.
     pub lost_bytes: u64,
@@ -44,12 +46,7 @@ impl Recovery {
     pub fn new() -> Recovery
         ensures { result ≡ unharmed }
     {
-        Recovery {
-            recovery_state: RecoveryState::NotInRecovery,
-            recovery_window: 0,
-            lost_bytes: 0,
-            end_recovery_at_packet_number: 0,
-        }
+        Recovery::default()
     }
 
     /// Whether bytes were lost since the last batch of acks ended.

@@ -3,7 +3,7 @@ ghost use Rattle.std.specs.Prelude.{◌≡◌};
 ghost use Rattle.bbr_rounds.specs.Rounds.{unsent, begins, after_acks};
 
 /// Packet numbers, and the rounds that they end.
-#[derive(Clone, Copy)]
+#[derive(Clone, Copy, Default)]
 pub struct Rounds {
     pub max_acked_packet_number: u64,
     pub max_sent_packet_number: u64,
@@ -17,12 +17,7 @@ impl Rounds {
     pub fn new() -> Rounds
         ensures { result ≡ unsent }
     {
-        Rounds {
-            max_acked_packet_number: 0,
-            max_sent_packet_number: 0,
-            current_round_trip_end_packet_number: 0,
-            round_count: 0,
-        }
+        Rounds::default()
     }
 
     /// Takes a batch of acks, and answers whether it begins a round.

@@ -11,7 +11,6 @@ use Rattle.std.specs.Float.{nan}
 use Rattle.std.specs.Float.Ieee.{lt, eq}
 use Rattle.bbr_rounds.specs.Recovery.{is_lossy}
 use Rattle.bbr_state.specs.Gains.{cycle, unit_gain, double_gain}
-use Rattle.bbr_state.specs.Groups.{with_phase}
 use Rattle.bbr_state.specs.Targets.{target}
 use Rattle.bbr_state.specs.declared.state.BbrState.{BbrState}
 use Rattle.bbr_state.specs.declared.state.Phase.{Phase}
@@ -39,7 +38,7 @@ cruising time i =
     }
 
 abbrev pub cruised : BbrState → ℕ → ℕ → BbrState
-cruised s time d = with_phase s (cruising time (offset_of d))
+cruised s time d = record s { phase = cruising time (offset_of d) }
 
 abbrev pub is_passed : Option ℕ → ℕ → ℕ → Bool
 is_passed None time rtt = false
@@ -68,15 +67,15 @@ stays_low s gain flight =
 -- the next offset, with the gain before or its own
 abbrev pub turned : Phase → ℕ → Bool → Phase
 turned p time low =
-    record {
-      mode = p.mode;
+    record p {
       pacing_gain = cond low p.pacing_gain (gain_at (next_offset p));
-      cwnd_gain = p.cwnd_gain;
       last_cycle_start = Some time;
       current_cycle_offset = next_offset p;
     }
 
 abbrev pub cycled : BbrState → ℕ → ℕ → BbrState
 cycled s time flight =
-    with_phase s
-    (cond (advances s time flight) (turned s.phase time (stays_low s (gain_at (next_offset s.phase)) flight)) s.phase)
+    record s {
+      phase =
+          cond (advances s time flight) (turned s.phase time (stays_low s (gain_at (next_offset s.phase)) flight)) s.phase;
+    }

@@ -1,4 +1,3 @@
-pub mod Groups
 pub mod Tests
 pub mod Gains
 pub mod Makers

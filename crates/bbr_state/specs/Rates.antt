@@ -19,12 +19,10 @@ use Rattle.bandwidth.specs.Bandwidth.{per_second}
 use Rattle.bbr_rounds.specs.Recovery.{is_in}
 use Rattle.bbr_rounds.specs.declared.ack_aggregation.AckAggregationState.{AckAggregationState}
 use Rattle.bbr_state.specs.Gains.{real, raised_gain}
-use Rattle.bbr_state.specs.Groups.{with_flow, with_growth, with_aggregation}
 use Rattle.bbr_state.specs.Tests.{is_probe_rtt}
 use Rattle.bbr_state.specs.Targets.{bandwidth, target}
 use Rattle.bbr_state.specs.declared.state.BbrState.{BbrState}
 use Rattle.bbr_state.specs.declared.state.BandwidthGrowth.{BandwidthGrowth}
-use Rattle.bbr_state.specs.declared.state.Flow.{Flow}
 
 abbrev pub target_rate : BbrState → ℕ
 target_rate s = to_unsigned 64 (mul binary64 (real (bandwidth s)) s.phase.pacing_gain)
@@ -36,19 +34,8 @@ rate_of s rate =
     (cond (rate == 0 && not (s.flow.min_rtt == 0)) (unwrap_or (per_second s.limits.init_cwnd s.flow.min_rtt) 0)
     (max rate (target_rate s))))
 
--- another rate and window
-abbrev pub flowing : Flow → ℕ → ℕ → Flow
-flowing f rate w =
-    record {
-      acked_bytes = f.acked_bytes;
-      prev_in_flight_count = f.prev_in_flight_count;
-      min_rtt = f.min_rtt;
-      pacing_rate = rate;
-      cwnd = w;
-    }
-
 abbrev pub paced : BbrState → BbrState
-paced s = with_flow s (flowing s.flow (rate_of s s.flow.pacing_rate) s.flow.cwnd)
+paced s = record s { flow = record s.flow { pacing_rate = rate_of s s.flow.pacing_rate } }
 
 abbrev pub aim : BbrState → ℕ → ℕ
 aim s excess =
@@ -63,9 +50,12 @@ grown s acked w =
 
 abbrev pub sized : BbrState → ℕ → ℕ → BbrState
 sized s acked excess =
-    with_flow s
-    (flowing s.flow s.flow.pacing_rate
-    (cond (is_probe_rtt s.phase.mode) s.flow.cwnd (max (grown s acked (aim s excess)) s.limits.min_cwnd)))
+    record s {
+      flow =
+          record s.flow {
+            cwnd = cond (is_probe_rtt s.phase.mode) s.flow.cwnd (max (grown s acked (aim s excess)) s.limits.min_cwnd);
+          };
+    }
 
 abbrev pub is_grown : BbrState → Bool
 is_grown s = nat_le (to_unsigned 64 (mul binary64 (real s.growth.bw_at_last_round) raised_gain)) (bandwidth s)
@@ -73,24 +63,20 @@ is_grown s = nat_le (to_unsigned 64 (mul binary64 (real s.growth.bw_at_last_roun
 abbrev pub judged : BbrState → BandwidthGrowth
 judged s =
     cond (is_grown s)
-    (record { is_at_full_bandwidth = s.growth.is_at_full_bandwidth; bw_at_last_round = bandwidth s; round_wo_bw_gain = 0 })
-    (record {
+    (record s.growth { bw_at_last_round = bandwidth s; round_wo_bw_gain = 0 })
+    (record s.growth {
       is_at_full_bandwidth =
           cond (nat_le 3 (sum s.growth.round_wo_bw_gain 1) || is_in s.recovery.recovery_state) true s.growth.is_at_full_bandwidth;
-      bw_at_last_round = s.growth.bw_at_last_round;
       round_wo_bw_gain = sum s.growth.round_wo_bw_gain 1;
     })
 
 -- what acks were ahead of a lower bandwidth says nothing of the new one
 abbrev pub forgotten : AckAggregationState → AckAggregationState
-forgotten a =
-    record {
-      max_ack_height = emptied 0 a.max_ack_height;
-      aggregation_epoch_start_time = a.aggregation_epoch_start_time;
-      aggregation_epoch_bytes = a.aggregation_epoch_bytes;
-    }
+forgotten a = record a { max_ack_height = emptied 0 a.max_ack_height }
 
 abbrev pub checked : BbrState → Bool → BbrState
 checked s limited =
-    with_aggregation (with_growth s (cond limited s.growth (judged s)))
-    (cond (not limited && is_grown s) (forgotten s.ack_aggregation) s.ack_aggregation)
+    record s {
+      growth = cond limited s.growth (judged s);
+      ack_aggregation = cond (not limited && is_grown s) (forgotten s.ack_aggregation) s.ack_aggregation;
+    }

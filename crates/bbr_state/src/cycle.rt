@@ -2,7 +2,7 @@
 ghost use Rattle.std.specs.Prelude.{◌≡◌, ◌<◌};
 ghost use Rattle.bbr_state.specs.Cycle.{EntryOffset, gain_at, cruised, advances, stays_low, cycled};
 
-use crate::state::{BbrState, Mode};
+use crate::state::{AckBatch, BbrState, Mode};
 use draws::source::DrawSource;
 
 // The gain of the window from the drained queue on.
@@ -37,12 +37,12 @@ impl BbrState {
         self.phase.pacing_gain = pacing_gain_at(offset);
     }
 
-    fn should_advance_gain_cycling(&self, time: u64, in_flight: u64) -> bool
-        ensures { result ≡ advances self.now time in_flight }
+    fn should_advance_gain_cycling(&self, batch: &AckBatch) -> bool
+        ensures { result ≡ advances self.now batch.now.time batch.now.in_flight }
     {
         let gain = self.phase.pacing_gain;
         // The queue is drained, so the low gain has done its work.
-        if gain < 1.0 && in_flight <= self.get_target_cwnd(1.0) {
+        if gain < 1.0 && batch.in_flight <= self.get_target_cwnd(1.0) {
             return true;
         }
         // The high gain has not filled the path yet, and no loss says that it cannot.
@@ -52,10 +52,10 @@ impl BbrState {
         {
             return false;
         }
-        match self.phase.last_cycle_start {
-            Some(start) => time.saturating_sub(start) > self.flow.min_rtt,
-            None => false,
-        }
+        let min_rtt = self.flow.min_rtt;
+        self.phase
+            .last_cycle_start
+            .is_some_and(|start| batch.time.saturating_sub(start) > min_rtt)
     }
 
     // A low gain stays until the queue is drained. The cycle's gains are 1 or a quarter away from it.
@@ -66,17 +66,17 @@ impl BbrState {
     }
 
     /// Advances the cycle where its time has come.
-    pub fn update_gain_cycle_phase(&mut self, time: u64, in_flight: u64)
-        ensures { self.new ≡ cycled self.old time in_flight }
+    pub fn update_gain_cycle_phase(&mut self, batch: &AckBatch)
+        ensures { self.new ≡ cycled self.old batch.now.time batch.now.in_flight }
     {
-        if !self.should_advance_gain_cycling(time, in_flight) {
+        if !self.should_advance_gain_cycling(batch) {
             return;
         }
-        let offset = ((self.phase.current_cycle_offset as u16 + 1) % 8) as u8;
+        let offset = ((u16::from(self.phase.current_cycle_offset) + 1) % 8) as u8;
         let gain = pacing_gain_at(offset);
-        let stays_low = self.stays_low(gain, in_flight);
+        let stays_low = self.stays_low(gain, batch.in_flight);
         self.phase.current_cycle_offset = offset;
-        self.phase.last_cycle_start = Some(time);
+        self.phase.last_cycle_start = Some(batch.time);
         if !stays_low {
             self.phase.pacing_gain = gain;
         }

@@ -14,7 +14,7 @@ const K_DEFAULT_HIGH_GAIN: f32 = 2.885;
 pub fn calculate_min_window(current_mtu: u16) -> u64
     ensures { result ≡ 4 * current_mtu }
 {
-    4 * current_mtu as u64
+    4 * u64::from(current_mtu)
 }
 
 impl BbrState {
@@ -25,7 +25,7 @@ impl BbrState {
         BbrState {
             limits: Limits {
                 initial_window,
-                current_mtu: current_mtu as u64,
+                current_mtu: u64::from(current_mtu),
                 init_cwnd: initial_window,
                 min_cwnd: calculate_min_window(current_mtu),
             },
@@ -41,24 +41,13 @@ impl BbrState {
                 last_cycle_start: None,
                 current_cycle_offset: 0,
             },
-            rtt_probe: RttProbe {
-                exit_probe_rtt_at: None,
-                probe_rtt_last_started_at: None,
-                exiting_quiescence: false,
-            },
+            rtt_probe: RttProbe::default(),
             recovery: Recovery::new(),
             rounds: Rounds::new(),
-            growth: BandwidthGrowth {
-                is_at_full_bandwidth: false,
-                bw_at_last_round: 0,
-                round_wo_bw_gain: 0,
-            },
+            growth: BandwidthGrowth::default(),
             flow: Flow {
-                acked_bytes: 0,
-                prev_in_flight_count: 0,
-                min_rtt: 0,
-                pacing_rate: 0,
                 cwnd: initial_window,
+                ..Flow::default()
             },
             max_bandwidth: BandwidthEstimation::new(),
             ack_aggregation: AckAggregationState::new(),

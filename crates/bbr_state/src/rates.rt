@@ -2,9 +2,9 @@
 ghost use Rattle.std.specs.Prelude.{◌≡◌};
 ghost use Rattle.bbr_state.specs.Rates.{paced, aim, sized, checked};
 
-use crate::state::{BbrState, Mode};
+use crate::state::{AckBatch, BbrState, Mode};
 use bandwidth::bw_estimation::bw_from_delta;
-use numbers::{f32_from_u64, f64_from_u64, u64_from_f64};
+use numbers::{nearest, whole_part};
 use std::num::f32_to_f64_with_nan;
 
 // The growth in a round that keeps the startup going.
@@ -21,8 +21,8 @@ impl BbrState {
         if bw == 0 {
             return;
         }
-        let target_rate = u64_from_f64(
-            f64_from_u64(bw) * f32_to_f64_with_nan(self.phase.pacing_gain),
+        let target_rate = whole_part(
+            nearest::<f64>(bw) * f32_to_f64_with_nan(self.phase.pacing_gain),
         );
         if self.growth.is_at_full_bandwidth {
             self.flow.pacing_rate = target_rate;
@@ -55,20 +55,20 @@ impl BbrState {
     }
 
     /// The window, which grows by no more than what was acknowledged.
-    pub fn calculate_cwnd(&mut self, bytes_acked: u64, excess_acked: u64)
-        ensures { self.new ≡ sized self.old bytes_acked excess_acked }
+    pub fn calculate_cwnd(&mut self, batch: &AckBatch)
+        ensures { self.new ≡ sized self.old batch.now.bytes_acked batch.now.excess_acked }
     {
         if self.phase.mode == Mode::ProbeRtt {
             return;
         }
-        let target_window = self.target_window(excess_acked);
+        let target_window = self.target_window(batch.excess_acked);
         if self.growth.is_at_full_bandwidth {
-            self.flow.cwnd = target_window.min(self.flow.cwnd.saturating_add(bytes_acked));
-        } else if self.phase.cwnd_gain < f32_from_u64(target_window)
+            self.flow.cwnd = target_window.min(self.flow.cwnd.saturating_add(batch.bytes_acked));
+        } else if self.phase.cwnd_gain < nearest::<f32>(target_window)
             || self.flow.acked_bytes < self.limits.init_cwnd
         {
             // The window does not fall during startup.
-            self.flow.cwnd = self.flow.cwnd.saturating_add(bytes_acked);
+            self.flow.cwnd = self.flow.cwnd.saturating_add(batch.bytes_acked);
         }
         self.flow.cwnd = self.flow.cwnd.max(self.limits.min_cwnd);
     }
@@ -80,8 +80,8 @@ impl BbrState {
         if app_limited {
             return;
         }
-        let target = u64_from_f64(
-            f64_from_u64(self.growth.bw_at_last_round)
+        let target = whole_part(
+            nearest::<f64>(self.growth.bw_at_last_round)
                 * f32_to_f64_with_nan(K_STARTUP_GROWTH_TARGET),
         );
         let bw = self.max_bandwidth.get_estimate();

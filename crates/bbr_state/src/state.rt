@@ -5,7 +5,7 @@ use bbr_rounds::recovery::Recovery;
 use bbr_rounds::rounds::Rounds;
 
 /// What the sender is after at present.
-#[derive(Clone, Copy, PartialEq, Eq)]
+#[derive(Clone, Copy, Debug, PartialEq, Eq)]
 pub enum Mode {
     /// Startup phase of the connection.
     Startup,
@@ -48,7 +48,7 @@ pub struct Phase {
 }
 
 /// When the minimum RTT is measured.
-#[derive(Clone, Copy)]
+#[derive(Clone, Copy, Default)]
 pub struct RttProbe {
     pub exit_probe_rtt_at: Option<u64>,
     pub probe_rtt_last_started_at: Option<u64>,
@@ -56,15 +56,16 @@ pub struct RttProbe {
 }
 
 /// Whether the bandwidth still grows.
-#[derive(Clone, Copy)]
+#[derive(Clone, Copy, Default)]
 pub struct BandwidthGrowth {
     pub is_at_full_bandwidth: bool,
     pub bw_at_last_round: u64,
     pub round_wo_bw_gain: u64,
 }
 
-/// The rate and the window, and what they are computed from.
-#[derive(Clone, Copy)]
+/// The rate and the window, and what they are computed from. Before the first sample they are 0 and no `None`: the crate computes
+/// with that 0, and its recorded states print it.
+#[derive(Clone, Copy, Default)]
 pub struct Flow {
     pub acked_bytes: u64,
     pub prev_in_flight_count: u64,
@@ -88,9 +89,13 @@ pub struct BbrState {
     pub ack_aggregation: AckAggregationState,
 }
 
-/// What a batch of acks came to.
+/// What a batch of acks ended with and came to.
 #[derive(Clone, Copy)]
 pub struct AckBatch {
+    pub time: u64,
+    /// Bytes still in flight.
+    pub in_flight: u64,
+    pub app_limited: bool,
     pub bytes_acked: u64,
     /// Bytes acknowledged above what the bandwidth explains.
     pub excess_acked: u64,

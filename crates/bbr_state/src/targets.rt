@@ -3,7 +3,7 @@ ghost use Rattle.std.specs.Prelude.{◌≡◌};
 ghost use Rattle.bbr_state.specs.Targets.{target, probe_target};
 
 use crate::state::BbrState;
-use numbers::{f64_from_u64, u64_from_f64};
+use numbers::{nearest, whole_part};
 use std::num::f32_to_f64_with_nan;
 
 const K_MODERATE_PROBE_RTT_MULTIPLIER: f32 = 0.75;
@@ -15,7 +15,7 @@ impl BbrState {
     {
         let bw = self.max_bandwidth.get_estimate();
         let bdp = (self.flow.min_rtt / 1_000).saturating_mul(bw);
-        let cwnd = u64_from_f64(f32_to_f64_with_nan(gain) * f64_from_u64(bdp) / 1_000_000.0);
+        let cwnd = whole_part(f32_to_f64_with_nan(gain) * nearest::<f64>(bdp) / 1_000_000.0);
         // The product is 0 before the first sample of the bandwidth.
         if cwnd == 0 {
             return self.limits.init_cwnd;

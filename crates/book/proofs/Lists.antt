@@ -1,12 +1,13 @@
 -- What stands after a list of calls stands after one more. Assumes nothing.
-use Rattle.std.proofs.Common.{◌≡◌, ℕ, ◌+◌, ◌*◌, ◌%◌, ◌^◌, ◌≤◌, List, [], ◌∷◌, ◌++◌, sym, refl, ap, ◌∙◌, subst, arith}
+use Rattle.std.proofs.Common.{◌≡◌, ℕ, ◌+◌, ◌*◌, ◌%◌, ◌^◌, ◌≤◌, List, [], ◌∷◌, ◌++◌, Option, sym, refl, ap, ◌∙◌, subst, arith}
 use Rattle.std.proofs.lemmas.List.{get_or-replicate}
 use Rattle.values.specs.declared.opening.Opening.{Opening}
 use Rattle.congestion.specs.Meaning.{Meaning}
+use Rattle.congestion.specs.Rules.{Rules}
 use Rattle.cells.specs.Sound.{Sound}
 use Rattle.cells.specs.Tables.{nowhere}
 use Rattle.cells.specs.declared.table.Cell.TheVariants.{Free}
-use Rattle.path.specs.Paths.{PathState, reported}
+use Rattle.path.specs.Paths.{PathState, window_of, reported}
 use Rattle.path.specs.Paths as paths
 use Rattle.book.specs.declared.call.Call.{Call}
 use Rattle.book.specs.declared.call.Request.{Request}
@@ -14,7 +15,7 @@ use Rattle.book.specs.declared.call.Step.{Step}
 use Rattle.book.specs.Book.{Place, Entry, Book, held, in_flight, acknowledged, lost, withdrawn, same, bytes_in, count_in, sent_by}
 use Rattle.book.specs.Book as book
 use Rattle.book.specs.Agreement.{says, Own, Numbered, count_of, Agrees}
-use Rattle.book.specs.Requests.{Rules, window, pace_for}
+use Rattle.book.specs.Requests.{pace_for}
 use Rattle.book.specs.Requests as requests
 use Rattle.book.specs.Settings.{Setting, request_of, noted, next}
 use Rattle.book.specs.Theorem.{transmitted, Answered, GrantLaw, Granted, Reports, Small, Modest, Stands}
@@ -41,11 +42,7 @@ granted_more floor k (x ∷ ss) s h a = (h.0, granted_more floor (book.after k x
 
 -- at most 1,500 bytes for each number handed out
 one_place : (p : Place) (n : ℕ) → same acknowledged p * n + same lost p * n + same in_flight p * n ≤ n
-one_place held n = omega arith
-one_place in_flight n = omega arith
-one_place acknowledged n = omega arith
-one_place lost n = omega arith
-one_place withdrawn n = omega arith
+one_place p n = grind arith
 
 few_bytes : (es : List Entry) (first next : ℕ) → Numbered first next es → Small es → (first ≤ next) × (sent_all es + 1500 * first ≤ 1500 * next)
 few_bytes [] first next k h = (omega (arith, k), omega (arith, k))
@@ -58,16 +55,16 @@ reports k s ok = (omega (arith, numbered_length k.entries s.table.first k.next o
 
 module _ {M : Type 0} (r : Rules M) (law : Lawful r) (floor : ℕ) (k : Book) (m : Meaning) (modest : Modest m) where
   -- the step that a call notes
-  abbrev pub step_of : PathState M → Call → Request → Step
-  step_of s call q = record { call = call; request = q; window = window r s; pace = pace_for r s q; answer = requests.answer r s q }
+  abbrev pub step_of : PathState M → Call → Option Request → Step
+  step_of s call q = record { call = call; request = q; window = window_of r s; pace = pace_for r s q; answer = requests.answer r s q }
 
-  pub one_more : (ss : List Step) (s : PathState M) (call : Call) (q : Request) → Sound s.table → (requests.after r s q).table.next ≤ 2 ^ 48 → 1 ≤ floor → floor * (r.meaning s.controller).mtu ≤ window r s → Stands r.meaning floor k m ss s → Stands r.meaning floor k m (ss ++ step_of s call q ∷ []) (requests.after r s q)
+  pub one_more : (ss : List Step) (s : PathState M) (call : Call) (q : Option Request) → Sound s.table → (requests.after r s q).table.next ≤ 2 ^ 48 → 1 ≤ floor → floor * (r.meaning s.controller).mtu ≤ window_of r s → Stands r.meaning floor k m ss s → Stands r.meaning floor k m (ss ++ step_of s call q ∷ []) (requests.after r s q)
   one_more ss s call q sound limit low wide old =
       let x = step_of s call q in
       let k₁ = theorem.book k ss in
       let st = step r law floor k₁ s old.agrees sound old.mtu old.small low wide q in
       let on = st.onward in
-      let k₂ = book.after k₁ q (window r s) (pace_for r s q) in
+      let k₂ = book.after k₁ q (window_of r s) (pace_for r s q) in
       let s' = requests.after r s q in
       let is : theorem.book k (ss ++ x ∷ []) ≡ k₂ = book_more k ss x in
       let more = transmitted_more k ss x in
@@ -92,7 +89,7 @@ module _ {M : Type 0} (r : Rules M) (law : Lawful r) (floor : ℕ) (k : Book) (m
       }
 
   -- the same of the step and the state that a call left
-  pub added : (ss : List Step) (x : Setting M) (call : Call) (st : Step) (s' : PathState M) → st ≡ noted r x call → s' ≡ (next r x call).path → Sound x.path.table → s'.table.next ≤ 2 ^ 48 → 1 ≤ floor → floor * (r.meaning x.path.controller).mtu ≤ window r x.path → Stands r.meaning floor k m ss x.path → Stands r.meaning floor k m (ss ++ st ∷ []) s'
+  pub added : (ss : List Step) (x : Setting M) (call : Call) (st : Step) (s' : PathState M) → st ≡ noted r x call → s' ≡ (next r x call).path → Sound x.path.table → s'.table.next ≤ 2 ^ 48 → 1 ≤ floor → floor * (r.meaning x.path.controller).mtu ≤ window_of r x.path → Stands r.meaning floor k m ss x.path → Stands r.meaning floor k m (ss ++ st ∷ []) s'
   added ss x call st s' e f sound limit low wide old =
       let there : (next r x call).path.table.next ≤ 2 ^ 48 = subst (λ z. z.table.next ≤ 2 ^ 48) f limit in
       let new = one_more ss x.path call (request_of x.purse call) sound there low wide old in
@@ -100,15 +97,11 @@ module _ {M : Type 0} (r : Rules M) (law : Lawful r) (floor : ℕ) (k : Book) (m
 
 -- a path begun afresh
 none : (p : Place) → count_of nowhere p ≡ 0
-none held = refl
-none in_flight = refl
-none acknowledged = refl
-none lost = refl
-none withdrawn = refl
+none p = grind arith
 
-pub begun : {M : Type 0} (r : Rules M) → Lawful r → (floor : ℕ) (x : M) (o : Opening) → Stands r.meaning floor (book.opened o) (r.meaning x) [] (paths.opened r.meaning r.resizes x o)
+pub begun : {M : Type 0} (r : Rules M) → Lawful r → (floor : ℕ) (x : M) (o : Opening) → Stands r.meaning floor (book.opened o) (r.meaning x) [] (paths.opened r x o)
 begun r law floor x o =
-    let s = paths.opened r.meaning r.resizes x o in
+    let s = paths.opened r x o in
     let e = law.resizes x o.mtu.value in
     let ag : Agrees (book.opened o) s.table = record {
       next = refl;

@@ -9,7 +9,9 @@ use Rattle.cells.specs.declared.table.Cell.TheVariants.{Free, Held, InFlight}
 use Rattle.cells.specs.declared.table.CellTable.{CellTable}
 use Rattle.cells.specs.declared.table.Counts.{Counts}
 use Rattle.cells.specs.declared.table.Datagram.{Datagram}
+use Rattle.cells.specs.declared.table.Label.{Label}
 use Rattle.cells.proofs.Kept.{held_enough, in_flight_enough}
+use Rattle.cells.proofs.Says.{HeldAs}
 use Rattle.book.specs.Book.{Place, Entry, Book, held, in_flight, acknowledged, lost, withdrawn, same, find, move, entered, at_time, with_mtu, put}
 use Rattle.book.specs.Agreement.{entry_of, says, out, Own, Numbered, count_of, Agrees}
 use Rattle.book.proofs.Entries.{find_head, find_tail, find_move_other, find_move_same, count_move, bytes_move, numbered_move}
@@ -60,33 +62,17 @@ moved_keeps k b b' n d old new p q len ok c =
     }
 
 -- the counts, place by place
-transmitted_count : (b : CellTable) (n size : ℕ) (d : Datagram) → 1 ≤ b.counts.held → (x : Place) → count_of (transmitted_if b n size (Some d)).counts x + same x held ≡ count_of b.counts x + same x in_flight
-transmitted_count b n size d h held = omega arith
-transmitted_count b n size d h in_flight = omega arith
-transmitted_count b n size d h acknowledged = refl
-transmitted_count b n size d h lost = refl
-transmitted_count b n size d h withdrawn = refl
+transmitted_count : (b : CellTable) (l : Label) (d : Datagram) → 1 ≤ b.counts.held → (x : Place) → count_of (transmitted_if b l (Some d)).counts x + same x held ≡ count_of b.counts x + same x in_flight
+transmitted_count b l d h x = grind arith
 
-withdrawn_count : (b : CellTable) (n size : ℕ) (d : Datagram) → 1 ≤ b.counts.held → (x : Place) → count_of (withdrawn_if b n size (Some d)).counts x + same x held ≡ count_of b.counts x + same x withdrawn
-withdrawn_count b n size d h held = omega arith
-withdrawn_count b n size d h in_flight = refl
-withdrawn_count b n size d h acknowledged = refl
-withdrawn_count b n size d h lost = refl
-withdrawn_count b n size d h withdrawn = omega arith
+withdrawn_count : (b : CellTable) (l : Label) (d : Datagram) → 1 ≤ b.counts.held → (x : Place) → count_of (withdrawn_if b l (Some d)).counts x + same x held ≡ count_of b.counts x + same x withdrawn
+withdrawn_count b l d h x = grind arith
 
 freed_count : (b : CellTable) (n time : ℕ) (d : Datagram) → 1 ≤ b.counts.in_flight → (x : Place) → count_of (freed b n time d).counts x + same x in_flight ≡ count_of b.counts x
-freed_count b n time d h held = omega arith
-freed_count b n time d h in_flight = omega arith
-freed_count b n time d h acknowledged = omega arith
-freed_count b n time d h lost = omega arith
-freed_count b n time d h withdrawn = omega arith
+freed_count b n time d h x = grind arith
 
 held_count : (b : CellTable) (size time : ℕ) (x : Place) → count_of (with_held b size time).counts x ≡ same x held + count_of b.counts x
-held_count b size time held = omega arith
-held_count b size time in_flight = omega arith
-held_count b size time acknowledged = omega arith
-held_count b size time lost = omega arith
-held_count b size time withdrawn = omega arith
+held_count b size time x = grind arith
 
 -- a place where numbers come to their end, and how it is counted
 pub record Ending (q : Place) (count : Counts → Counts) : Type 0 where
@@ -97,18 +83,10 @@ pub record Ending (q : Place) (count : Counts → Counts) : Type 0 where
   pub either : (n : ℕ) → same acknowledged q * n + same lost q * n ≡ n
 
 counts_acknowledged : (c : Counts) (x : Place) → count_of (one_acknowledged c) x ≡ count_of c x + same x acknowledged
-counts_acknowledged c held = omega arith
-counts_acknowledged c in_flight = omega arith
-counts_acknowledged c acknowledged = refl
-counts_acknowledged c lost = omega arith
-counts_acknowledged c withdrawn = omega arith
+counts_acknowledged c x = grind arith
 
 counts_lost : (c : Counts) (x : Place) → count_of (one_lost c) x ≡ count_of c x + same x lost
-counts_lost c held = omega arith
-counts_lost c in_flight = omega arith
-counts_lost c acknowledged = omega arith
-counts_lost c lost = refl
-counts_lost c withdrawn = omega arith
+counts_lost c x = grind arith
 
 pub ends_acknowledged : Ending acknowledged one_acknowledged
 ends_acknowledged = record { gone = λ d. refl; not_held = refl; not_in_flight = refl; one_more = counts_acknowledged; either = λ n. omega arith }
@@ -116,51 +94,54 @@ ends_acknowledged = record { gone = λ d. refl; not_held = refl; not_in_flight =
 pub ends_lost : Ending lost one_lost
 ends_lost = record { gone = λ d. refl; not_held = refl; not_in_flight = refl; one_more = counts_lost; either = λ n. omega arith }
 
-module _ (k : Book) (b : CellTable) (n : ℕ) (d : Datagram) (ok : Agrees k b) (sound : Sound b) (number : d.number ≡ n) where
-  pub transmitted_keeps : cell_of b n ≡ Held d → Agrees (put k n in_flight) (transmitted_if b n d.size (Some d))
-  transmitted_keeps was =
-      let enough = held_enough b n d sound was in
-      subst (λ z. Agrees (moved k n in_flight z) (transmitted_if b n d.size (Some d))) (sym ok.latest)
-      (moved_keeps k b (transmitted_if b n d.size (Some d)) n d (Held d) (InFlight d) held in_flight sound.0.0 ok
+module _ (k : Book) (b : CellTable) (l : Label) (d : Datagram) (ok : Agrees k b) (sound : Sound b) (h : HeldAs (cell_of b l.number) l d) where
+  pub transmitted_keeps : Agrees (put k l.number in_flight) (transmitted_if b l (Some d))
+  transmitted_keeps =
+      let enough = held_enough b l.number d sound h.was in
+      let size = h.size_is in
+      subst (λ z. Agrees (moved k l.number in_flight z) (transmitted_if b l (Some d))) (sym ok.latest)
+      (moved_keeps k b (transmitted_if b l (Some d)) l.number d (Held d) (InFlight d) held in_flight sound.0.0 ok
       (record {
-        was = was;
-        number = number;
-        says_old = said_same held d n number;
-        says_new = said_same in_flight d n number;
-        only_old = only_held d n number;
-        only_new = only_in_flight d n number;
-        own_new = ap (λ z. z % 256) number;
+        was = h.was;
+        number = h.number;
+        says_old = said_same held d l.number h.number;
+        says_new = said_same in_flight d l.number h.number;
+        only_old = only_held d l.number h.number;
+        only_new = only_in_flight d l.number h.number;
+        own_new = ap (λ z. z % 256) h.number;
         cells = refl;
         first = refl;
         next = refl;
         mtu = refl;
-        counts = transmitted_count b n d.size d enough.1;
+        counts = transmitted_count b l d enough.1;
         held_bytes = omega (arith, enough.0);
         flight_bytes = omega arith;
       }))
 
-  pub withdrawn_keeps : cell_of b n ≡ Held d → Agrees (put k n withdrawn) (withdrawn_if b n d.size (Some d))
-  withdrawn_keeps was =
-      let enough = held_enough b n d sound was in
-      subst (λ z. Agrees (moved k n withdrawn z) (withdrawn_if b n d.size (Some d))) (sym ok.latest)
-      (moved_keeps k b (withdrawn_if b n d.size (Some d)) n d (Held d) Free held withdrawn sound.0.0 ok
+  pub withdrawn_keeps : Agrees (put k l.number withdrawn) (withdrawn_if b l (Some d))
+  withdrawn_keeps =
+      let enough = held_enough b l.number d sound h.was in
+      let size = h.size_is in
+      subst (λ z. Agrees (moved k l.number withdrawn z) (withdrawn_if b l (Some d))) (sym ok.latest)
+      (moved_keeps k b (withdrawn_if b l (Some d)) l.number d (Held d) Free held withdrawn sound.0.0 ok
       (record {
-        was = was;
-        number = number;
-        says_old = said_same held d n number;
+        was = h.was;
+        number = h.number;
+        says_old = said_same held d l.number h.number;
         says_new = refl;
-        only_old = only_held d n number;
-        only_new = only_free n;
+        only_old = only_held d l.number h.number;
+        only_new = only_free l.number;
         own_new = tt;
         cells = refl;
         first = refl;
         next = refl;
         mtu = refl;
-        counts = withdrawn_count b n d.size d enough.1;
+        counts = withdrawn_count b l d enough.1;
         held_bytes = omega (arith, enough.0);
         flight_bytes = omega arith;
       }))
 
+module _ (k : Book) (b : CellTable) (n : ℕ) (d : Datagram) (ok : Agrees k b) (sound : Sound b) (number : d.number ≡ n) where
   -- acknowledged or lost
   pub counted_keeps : (time : ℕ) (q : Place) (count : Counts → Counts) → Ending q count → cell_of b n ≡ InFlight d → Agrees (at_time (put k n q) time) (counted_if b n time count (Ok d))
   counted_keeps time q count ending was =

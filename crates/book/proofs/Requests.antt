@@ -2,6 +2,8 @@
 use Rattle.std.proofs.Common.{◌≡◌, ℕ, ◌+◌, ◌-◌, ◌*◌, ◌^◌, ◌<◌, ◌≤◌, Bool, cond, List, is_some, Some, None, Ok, Err, Option, sym, refl, ap, ◌∙◌, subst, add-mul, one-mul, arith}
 use Rattle.rtt.specs.Estimates.{Estimate}
 use Rattle.congestion.specs.Meaning.{Meaning, told_sent, told_acked, told_end, told_lost, told_mtu}
+use Rattle.congestion.specs.Rules.{Rules}
+use Rattle.refusals.specs.declared.Refusal.TheVariants.{NotHeld}
 use Rattle.cells.specs.Sound.{Sound}
 use Rattle.cells.specs.Tables.{Checked, cell_of, admitted, in_time, landing, with_held, transmitted_if, withdrawn_if, counted_if, one_acknowledged, one_lost}
 use Rattle.cells.specs.Tables as tables
@@ -9,19 +11,19 @@ use Rattle.cells.specs.declared.table.Cell.TheVariants.{Held, InFlight}
 use Rattle.cells.specs.declared.table.CellTable.{CellTable}
 use Rattle.cells.specs.declared.table.Counts.{Counts}
 use Rattle.cells.specs.declared.table.Datagram.{Datagram}
+use Rattle.cells.specs.declared.table.Label.{Label}
 use Rattle.cells.proofs.Says.{admitted_says, held_says, landing_says}
 use Rattle.path.specs.Paths.{PathState, pace, permitted, answered}
 use Rattle.path.specs.Paths as paths
-use Rattle.book.specs.declared.call.Answer.TheVariants.{Done, HandedBack}
+use Rattle.book.specs.declared.call.Accepted.TheVariants.{Done}
 use Rattle.book.specs.declared.call.Event.{Event}
 use Rattle.book.specs.declared.call.Event.TheVariants.{Ack, End, Lose, SetMtu}
-use Rattle.book.specs.declared.call.Label.{Label}
 use Rattle.book.specs.declared.call.Request.{Request}
-use Rattle.book.specs.declared.call.Request.TheVariants.{NoCall, Grant, Transmit, Withdraw, Tell}
-use Rattle.book.specs.Book.{Place, Entry, Book, held, in_flight, acknowledged, lost, withdrawn, same, bytes_in, bytes_out, move, paced_check, said, said_grant, entered, at_time, with_mtu, put, granted, accepted, grant_check, holds, flight_check, time_check, sent_by}
+use Rattle.book.specs.declared.call.Request.TheVariants.{Grant, Transmit, Withdraw, Tell}
+use Rattle.book.specs.Book.{Answer, Place, Entry, Book, held, in_flight, acknowledged, lost, withdrawn, same, bytes_in, bytes_out, move, paced_check, said, said_grant, entered, at_time, with_mtu, put, granted, accepted, grant_check, holds, flight_check, time_check, sent_by}
 use Rattle.book.specs.Book as book
 use Rattle.book.specs.Agreement.{entry_of, Agrees}
-use Rattle.book.specs.Requests.{Rules, window, pace_for, said_permit, said_held}
+use Rattle.book.specs.Requests.{pace_for, said_permit, said_held}
 use Rattle.book.specs.Requests as requests
 use Rattle.book.specs.Theorem.{Verdict, GrantLaw, Small}
 use Rattle.book.proofs.Entries.{bytes_move, small_move}
@@ -65,16 +67,16 @@ module _ {M : Type 0} (r : Rules M) (law : Lawful r) (floor : ℕ) (k : Book) (s
 
   -- a permit that is presented, by the datagram that the table holds for it
   module _ (l : Label) where
-    transmit_by : (o : Option Datagram) → tables.is_held b l.number l.size ≡ o → Onward k (cond (is_some o) (put k l.number in_flight) k) m (r.meaning (paths.transmitted r.sends s l.number l.size o).controller) (paths.transmitted r.sends s l.number l.size o).table (cond (is_some o) l.size 0)
+    transmit_by : (o : Option Datagram) → tables.is_held b l ≡ o → Onward k (cond (is_some o) (put k l.number in_flight) k) m (r.meaning (paths.transmitted r s l o).controller) (paths.transmitted r s l o).table (cond (is_some o) l.size 0)
     transmit_by None h = stays
     transmit_by (Some d) h =
-        let f = held_says (cell_of b l.number) l.number l.size d h in
+        let f = held_says (cell_of b l.number) l d h in
         let e = law.sends s.controller d.time d.size d.number in
         let there = found k b l.number (Held d) (entry_of held d) ok f.was (said_same held d l.number f.number) in
         let w : (x : Place) → bytes_in x (move l.number in_flight k.entries) + same x held * d.size ≡ bytes_in x k.entries + same x in_flight * d.size = λ x. bytes_move k.entries l.number x in_flight (entry_of held d) there in
         let is = f.size_is in
         record {
-          agrees = subst (λ z. Agrees (put k l.number in_flight) (transmitted_if b l.number z (Some d))) is (transmitted_keeps k b l.number d ok sound f.number f.was);
+          agrees = transmitted_keeps k b l d ok sound f;
           mtu = ap (λ z. z.mtu) e ∙ mtu-is;
           small = small_move k.entries l.number in_flight small;
           sent = λ h. omega (arith, ap (λ z. z.totals.sent) e, is);
@@ -83,14 +85,14 @@ module _ {M : Type 0} (r : Rules M) (law : Lawful r) (floor : ℕ) (k : Book) (s
           flow = omega (arith, w acknowledged, w lost, w in_flight, is);
         }
 
-    withdraw_by : (o : Option Datagram) → tables.is_held b l.number l.size ≡ o → Onward k (cond (is_some o) (put k l.number withdrawn) k) m m (withdrawn_if b l.number l.size o) 0
+    withdraw_by : (o : Option Datagram) → tables.is_held b l ≡ o → Onward k (cond (is_some o) (put k l.number withdrawn) k) m m (withdrawn_if b l o) 0
     withdraw_by None h = stays
     withdraw_by (Some d) h =
-        let f = held_says (cell_of b l.number) l.number l.size d h in
+        let f = held_says (cell_of b l.number) l d h in
         let there = found k b l.number (Held d) (entry_of held d) ok f.was (said_same held d l.number f.number) in
         let w : (x : Place) → bytes_in x (move l.number withdrawn k.entries) + same x held * d.size ≡ bytes_in x k.entries + same x withdrawn * d.size = λ x. bytes_move k.entries l.number x withdrawn (entry_of held d) there in
         record {
-          agrees = subst (λ z. Agrees (put k l.number withdrawn) (withdrawn_if b l.number z (Some d))) f.size_is (withdrawn_keeps k b l.number d ok sound f.number f.was);
+          agrees = withdrawn_keeps k b l d ok sound f;
           mtu = mtu-is;
           small = small_move k.entries l.number withdrawn small;
           sent = λ h. omega arith;
@@ -99,9 +101,8 @@ module _ {M : Type 0} (r : Rules M) (law : Lawful r) (floor : ℕ) (k : Book) (s
           flow = omega (arith, w acknowledged, w lost, w in_flight);
         }
 
-    held_answer : (o : Option Datagram) → said_held l o ≡ cond (is_some o) Done (HandedBack l)
-    held_answer None = refl
-    held_answer (Some d) = refl
+    held_answer : (o : Option Datagram) → said_held l o ≡ cond (is_some o) (Ok Done) (Err (NotHeld l))
+    held_answer o = grind arith
 
   -- a number that comes to its end at q, of which the controller is told
   landed : (n time : ℕ) (d : Datagram) (q : Place) (count : Counts → Counts) (m' : Meaning) → Ending q count → landing b n time ≡ Ok d → m'.mtu ≡ m.mtu → m'.totals.sent ≡ m.totals.sent → (m.totals.acked + same acknowledged q * d.size < 2 ^ 64 → m'.totals.acked ≡ m.totals.acked + same acknowledged q * d.size) → (m.totals.lost + same lost q * d.size < 2 ^ 64 → m'.totals.lost ≡ m.totals.lost + same lost q * d.size) → Onward k (at_time (put k n q) time) m m' (counted_if b n time count (landing b n time)) 0
@@ -120,21 +121,21 @@ module _ {M : Type 0} (r : Rules M) (law : Lawful r) (floor : ℕ) (k : Book) (s
         flow = omega (arith, w acknowledged, w lost, w in_flight, none, ending.either d.size);
       }
 
-  ack_by : (n delay : ℕ) (limited : Bool) (time : ℕ) (a : Checked Datagram) → landing b n time ≡ a → Onward k (accepted (answered a) (at_time (put k n acknowledged) time) k) m (r.meaning (paths.acknowledged r.acks s n delay limited time a).controller) (paths.acknowledged r.acks s n delay limited time a).table 0
+  ack_by : (n delay : ℕ) (limited : Bool) (time : ℕ) (a : Checked Datagram) → landing b n time ≡ a → Onward k (accepted (answered a) (at_time (put k n acknowledged) time) k) m (r.meaning (paths.acknowledged r s n delay limited time a).controller) (paths.acknowledged r s n delay limited time a).table 0
   ack_by n delay limited time (Err e) h = stays
   ack_by n delay limited time (Ok d) h =
       let e = law.acks s.controller time d.time d.size limited (paths.sampled s d delay time).estimate in
       landed n time d acknowledged one_acknowledged _ ends_acknowledged h (ap (λ z. z.mtu) e) (ap (λ z. z.totals.sent) e)
       (λ fits. omega (arith, ap (λ z. z.totals.acked) e)) (λ fits. omega (arith, ap (λ z. z.totals.lost) e))
 
-  lose_by : (n : ℕ) (persistent : Bool) (time : ℕ) (a : Checked Datagram) → landing b n time ≡ a → Onward k (accepted (answered a) (at_time (put k n lost) time) k) m (r.meaning (paths.lost r.loses s n persistent time a).controller) (paths.lost r.loses s n persistent time a).table 0
+  lose_by : (n : ℕ) (persistent : Bool) (time : ℕ) (a : Checked Datagram) → landing b n time ≡ a → Onward k (accepted (answered a) (at_time (put k n lost) time) k) m (r.meaning (paths.lost r s n persistent time a).controller) (paths.lost r s n persistent time a).table 0
   lose_by n persistent time (Err e) h = stays
   lose_by n persistent time (Ok d) h =
       let e = law.loses s.controller time d.time persistent d.size in
       landed n time d lost one_lost _ ends_lost h (ap (λ z. z.mtu) e) (ap (λ z. z.totals.sent) e)
       (λ fits. omega (arith, ap (λ z. z.totals.acked) e)) (λ fits. omega (arith, ap (λ z. z.totals.lost) e))
 
-  end_by : (limited : Bool) (time : ℕ) (a : Checked (Unit {0})) → Onward k (accepted a (at_time k time) k) m (r.meaning (paths.ended r.ends s limited time a).controller) (paths.ended r.ends s limited time a).table 0
+  end_by : (limited : Bool) (time : ℕ) (a : Checked (Unit {0})) → Onward k (accepted a (at_time k time) k) m (r.meaning (paths.ended r s limited time a).controller) (paths.ended r s limited time a).table 0
   end_by limited time (Err e) = stays
   end_by limited time (Ok u) =
       let e = law.ends s.controller time b.in_flight_bytes limited s.largest in
@@ -151,7 +152,7 @@ module _ {M : Type 0} (r : Rules M) (law : Lawful r) (floor : ℕ) (k : Book) (s
   -- a grant, by the table's checks and the pacer's answer
   record GrantedBy (size time : ℕ) (a : Checked (Unit {0})) (o : Option ℕ) : Type 0 where
     answer : said_permit (permitted b.next size a o) ≡ said_grant k.next size (paced_check a o)
-    onward : Onward k (granted k size time a o) m (r.meaning (paths.granted r.meaning s size time a o).controller) (paths.granted r.meaning s size time a o).table 0
+    onward : Onward k (granted k size time a o) m (r.meaning (paths.granted r s size time a o).controller) (paths.granted r s size time a o).table 0
     verdict : Verdict floor k m.window (granted k size time a o) (paced_check a o)
 
   module _ (low : 1 ≤ floor) (wide : floor * m.mtu ≤ m.window) where
@@ -184,7 +185,7 @@ module _ {M : Type 0} (r : Rules M) (law : Lawful r) (floor : ℕ) (k : Book) (s
             lost_more = λ h. refl;
             flow = omega arith;
           };
-          verdict = λ is. let z : ◌≡◌ {A = ℕ} 0 1 = cc in absurd (omega arith);
+          verdict = λ is. absurd cc;
         }
     grant_by size time (Err e) o h =
         record {
@@ -198,31 +199,31 @@ module _ {M : Type 0} (r : Rules M) (law : Lawful r) (floor : ℕ) (k : Book) (s
         }
 
     -- what a request does to book and path alike
-    pub record Stepped (q : Request) : Type 0 where
+    pub record Stepped (q : Option Request) : Type 0 where
       pub answer : requests.answer r s q ≡ book.answer k q m.window (pace_for r s q)
       pub onward : Onward k (book.after k q m.window (pace_for r s q)) m (r.meaning (requests.after r s q).controller) (requests.after r s q).table (sent_by k q)
       pub law_holds : GrantLaw floor k q m.window (pace_for r s q)
 
-    event_step : (event : Event) → Stepped (Tell event)
+    event_step : (event : Event) → Stepped (Some (Tell event))
     event_step (Ack n delay limited time) =
         let is = flight_is ok n time in
         record {
-          answer = ap said (sym is);
-          onward = subst (λ c. Onward k (accepted c (at_time (put k n acknowledged) time) k) m (r.meaning (requests.after r s (Tell (Ack n delay limited time))).controller) (requests.after r s (Tell (Ack n delay limited time))).table 0) (sym is) (ack_by n delay limited time (landing b n time) refl);
+          answer = ap (λ z. Some (said z)) (sym is);
+          onward = subst (λ c. Onward k (accepted c (at_time (put k n acknowledged) time) k) m (r.meaning (requests.after r s (Some (Tell (Ack n delay limited time)))).controller) (requests.after r s (Some (Tell (Ack n delay limited time)))).table 0) (sym is) (ack_by n delay limited time (landing b n time) refl);
           law_holds = tt;
         }
     event_step (End limited time) =
         let is = time_is ok time in
         record {
-          answer = ap said (sym is);
-          onward = subst (λ c. Onward k (accepted c (at_time k time) k) m (r.meaning (requests.after r s (Tell (End limited time))).controller) (requests.after r s (Tell (End limited time))).table 0) (sym is) (end_by limited time (in_time b time));
+          answer = ap (λ z. Some (said z)) (sym is);
+          onward = subst (λ c. Onward k (accepted c (at_time k time) k) m (r.meaning (requests.after r s (Some (Tell (End limited time)))).controller) (requests.after r s (Some (Tell (End limited time)))).table 0) (sym is) (end_by limited time (in_time b time));
           law_holds = tt;
         }
     event_step (Lose n persistent time) =
         let is = flight_is ok n time in
         record {
-          answer = ap said (sym is);
-          onward = subst (λ c. Onward k (accepted c (at_time (put k n lost) time) k) m (r.meaning (requests.after r s (Tell (Lose n persistent time))).controller) (requests.after r s (Tell (Lose n persistent time))).table 0) (sym is) (lose_by n persistent time (landing b n time) refl);
+          answer = ap (λ z. Some (said z)) (sym is);
+          onward = subst (λ c. Onward k (accepted c (at_time (put k n lost) time) k) m (r.meaning (requests.after r s (Some (Tell (Lose n persistent time)))).controller) (requests.after r s (Some (Tell (Lose n persistent time)))).table 0) (sym is) (lose_by n persistent time (landing b n time) refl);
           law_holds = tt;
         }
     event_step (SetMtu mtu) =
@@ -241,31 +242,31 @@ module _ {M : Type 0} (r : Rules M) (law : Lawful r) (floor : ℕ) (k : Book) (s
           law_holds = tt;
         }
 
-    pub step : (q : Request) → Stepped q
-    step NoCall = record { answer = refl; onward = stays; law_holds = tt }
-    step (Grant size time) =
-        let o = pace r.meaning s size time in
+    pub step : (q : Option Request) → Stepped q
+    step None = record { answer = refl; onward = stays; law_holds = tt }
+    step (Some (Grant size time)) =
+        let o = pace r s size time in
         let is = sym (grant_is ok size time m.window) in
         let by = grant_by size time (admitted b size time m.window) o refl in
         record {
-          answer = by.answer ∙ ap (λ c. said_grant k.next size (paced_check c o)) is;
-          onward = subst (λ c. Onward k (granted k size time c o) m (r.meaning (requests.after r s (Grant size time)).controller) (requests.after r s (Grant size time)).table 0) is by.onward;
+          answer = ap Some (by.answer ∙ ap (λ c. said_grant k.next size (paced_check c o)) is);
+          onward = subst (λ c. Onward k (granted k size time c o) m (r.meaning (requests.after r s (Some (Grant size time))).controller) (requests.after r s (Some (Grant size time))).table 0) is by.onward;
           law_holds = subst (λ c. Verdict floor k m.window (granted k size time c o) (paced_check c o)) is by.verdict;
         }
-    step (Transmit l) =
-        let is = holds_is ok l.number l.size in
-        let o = tables.is_held b l.number l.size in
+    step (Some (Transmit l)) =
+        let is = holds_is ok l in
+        let o = tables.is_held b l in
         record {
-          answer = held_answer l o ∙ ap (λ h. cond h Done (HandedBack l)) (sym is);
-          onward = subst (λ h. Onward k (cond h (put k l.number in_flight) k) m (r.meaning (requests.after r s (Transmit l)).controller) (requests.after r s (Transmit l)).table (cond h l.size 0)) (sym is) (transmit_by l o refl);
+          answer = ap Some (held_answer l o ∙ ap (λ h. cond {A = Answer} h (Ok Done) (Err (NotHeld l))) (sym is));
+          onward = subst (λ h. Onward k (cond h (put k l.number in_flight) k) m (r.meaning (requests.after r s (Some (Transmit l))).controller) (requests.after r s (Some (Transmit l))).table (cond h l.size 0)) (sym is) (transmit_by l o refl);
           law_holds = tt;
         }
-    step (Withdraw l) =
-        let is = holds_is ok l.number l.size in
-        let o = tables.is_held b l.number l.size in
+    step (Some (Withdraw l)) =
+        let is = holds_is ok l in
+        let o = tables.is_held b l in
         record {
-          answer = held_answer l o ∙ ap (λ h. cond h Done (HandedBack l)) (sym is);
-          onward = subst (λ h. Onward k (cond h (put k l.number withdrawn) k) m m (requests.after r s (Withdraw l)).table 0) (sym is) (withdraw_by l o refl);
+          answer = ap Some (held_answer l o ∙ ap (λ h. cond {A = Answer} h (Ok Done) (Err (NotHeld l))) (sym is));
+          onward = subst (λ h. Onward k (cond h (put k l.number withdrawn) k) m m (requests.after r s (Some (Withdraw l))).table 0) (sym is) (withdraw_by l o refl);
           law_holds = tt;
         }
-    step (Tell event) = event_step event
+    step (Some (Tell event)) = event_step event

@@ -4,9 +4,9 @@ use lib.Seq.{take-set-le}
 use Rattle.std.proofs.lemmas.List.{take_more, take_more_set}
 use Rattle.std.proofs.lemmas.Bool.{cases_eq}
 use Rattle.congestion.specs.Meaning.{Meaning}
+use Rattle.congestion.specs.Rules.{Rules}
 use Rattle.book.specs.declared.call.Step.{Step}
 use Rattle.book.specs.Book.{Book}
-use Rattle.book.specs.Requests.{Rules}
 use Rattle.book.specs.Settings.{Setting, noted, next, last, log, Backed}
 use Rattle.book.specs.Theorem.{Modest, Stands}
 

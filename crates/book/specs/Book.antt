@@ -16,16 +16,19 @@
 --   9  the permit's number is not held, or with another size
 --  10  the number is not in flight
 -- A grant makes checks 2 to 8, transmit and withdraw 9, ack and lose 3 and 10, an end 3.
-use Rattle.std.specs.Prelude.{ℕ, ◌+◌, ◌*◌, ◌%◌, Bool, true, false, cond, not, ◌&&◌, ◌||◌, List, [], ◌∷◌, Some, None, Ok, Err, Option, ◌==◌, nat_lt}
-use Rattle.refusals.specs.declared.Refusal.TheVariants.{Size, Time, Held, NumbersExhausted, CellTaken, Window, Paced, NotInFlight}
+use Rattle.std.specs.Prelude.{ℕ, ◌+◌, ◌*◌, ◌%◌, Bool, true, false, cond, not, ◌&&◌, ◌||◌, List, [], ◌∷◌, Some, None, Ok, Err, Option, Result, ◌==◌, nat_lt}
+use Rattle.std.specs.declared.convert.Infallible.{Infallible as NoPermit}
+use Rattle.refusals.specs.declared.Refusal.{Refusal}
+use Rattle.refusals.specs.declared.Refusal.TheVariants.{OutsideLimit, Size, Time, Held, NumbersExhausted, CellTaken, Window, Paced, NotHeld, NotInFlight, Malformed, UnknownKind}
 use Rattle.values.specs.declared.opening.Opening.{Opening}
 use Rattle.cells.specs.Tables.{Checked, untimely}
-use Rattle.book.specs.declared.call.Answer.{Answer}
-use Rattle.book.specs.declared.call.Answer.TheVariants.{NoCall, Granted, Done, Refused, HandedBack}
+use Rattle.cells.specs.declared.table.Label.{Label}
+use Rattle.book.specs.declared.call.Accepted.{Accepted}
+use Rattle.book.specs.declared.call.Accepted.TheVariants.{Granted, Done}
 use Rattle.book.specs.declared.call.Event.{Event}
 use Rattle.book.specs.declared.call.Event.TheVariants.{Ack, End, Lose, SetMtu}
 use Rattle.book.specs.declared.call.Request.{Request}
-use Rattle.book.specs.declared.call.Request.TheVariants.{NoCall as Nothing, Grant, Transmit, Withdraw, Tell}
+use Rattle.book.specs.declared.call.Request.TheVariants.{Grant, Transmit, Withdraw, Tell}
 
 pub data Place : Type 0 where
   held : Place
@@ -121,8 +124,8 @@ abbrev pub is_held : Option Entry → ℕ → Bool
 is_held None size = false
 is_held (Some e) size = rank e.place == rank held && e.size == size
 
-abbrev pub holds : Book → ℕ → ℕ → Bool
-holds k n size = is_held (find n k.entries) size
+abbrev pub holds : Book → Label → Bool
+holds k l = is_held (find l.number k.entries) l.size
 
 -- checks 3 and 10
 abbrev pub is_in_flight : Option Entry → Bool
@@ -136,28 +139,47 @@ abbrev pub flight_check : Book → ℕ → ℕ → Checked (Unit {0})
 flight_check k n time =
     cond (untimely k.latest time) (Err Time) (cond (is_in_flight (find n k.entries)) (Ok tt) (Err NotInFlight))
 
+abbrev pub Answer : Type 0
+Answer = Result Accepted (Refusal Label)
+
+-- a refusal of a call that presents no permit, among those of any call
+abbrev pub widened : Refusal NoPermit → Refusal Label
+widened (OutsideLimit layer) = OutsideLimit layer
+widened Size = Size
+widened Time = Time
+widened Held = Held
+widened NumbersExhausted = NumbersExhausted
+widened CellTaken = CellTaken
+widened Window = Window
+widened (Paced time) = Paced time
+widened (NotHeld none) = elim none [ ]
+widened NotInFlight = NotInFlight
+widened Malformed = Malformed
+widened UnknownKind = UnknownKind
+
 -- what a call answers
 abbrev pub said : Checked (Unit {0}) → Answer
-said (Ok u) = Done
-said (Err e) = Refused e
+said (Ok u) = Ok Done
+said (Err e) = Err (widened e)
 
 abbrev pub said_grant : ℕ → ℕ → Checked (Unit {0}) → Answer
-said_grant n size (Ok u) = Granted (record { number = n; size = size })
-said_grant n size (Err e) = Refused e
+said_grant n size (Ok u) = Ok (Granted (record { number = n; size = size }))
+said_grant n size (Err e) = Err (widened e)
 
-abbrev pub event_answer : Book → Event → Answer
-event_answer k (Ack n delay limited time) = said (flight_check k n time)
-event_answer k (End limited time) = said (time_check k time)
-event_answer k (Lose n persistent time) = said (flight_check k n time)
-event_answer k (SetMtu mtu) = Done
+abbrev pub event_answer : Book → Event → Checked (Unit {0})
+event_answer k (Ack n delay limited time) = flight_check k n time
+event_answer k (End limited time) = time_check k time
+event_answer k (Lose n persistent time) = flight_check k n time
+event_answer k (SetMtu mtu) = Ok tt
 
 -- with a grant the book is given the window and the pacer's answer
-abbrev pub answer : Book → Request → ℕ → Option ℕ → Answer
-answer k Nothing window pace = NoCall
-answer k (Grant size time) window pace = said_grant k.next size (paced_check (grant_check k size time window) pace)
-answer k (Transmit l) window pace = cond (holds k l.number l.size) Done (HandedBack l)
-answer k (Withdraw l) window pace = cond (holds k l.number l.size) Done (HandedBack l)
-answer k (Tell event) window pace = event_answer k event
+abbrev pub answer : Book → Option Request → ℕ → Option ℕ → Option Answer
+answer k None window pace = None
+answer k (Some (Grant size time)) window pace =
+    Some (said_grant k.next size (paced_check (grant_check k size time window) pace))
+answer k (Some (Transmit l)) window pace = Some (cond (holds k l) (Ok Done) (Err (NotHeld l)))
+answer k (Some (Withdraw l)) window pace = Some (cond (holds k l) (Ok Done) (Err (NotHeld l)))
+answer k (Some (Tell event)) window pace = Some (said (event_answer k event))
 
 -- what the book holds then
 abbrev pub entered : Book → ℕ → ℕ → Book
@@ -193,17 +215,17 @@ event_after k (End limited time) = accepted (time_check k time) (at_time k time)
 event_after k (Lose n persistent time) = accepted (flight_check k n time) (at_time (put k n lost) time) k
 event_after k (SetMtu mtu) = with_mtu k mtu.value
 
-abbrev pub after : Book → Request → ℕ → Option ℕ → Book
-after k Nothing window pace = k
-after k (Grant size time) window pace = granted k size time (grant_check k size time window) pace
-after k (Transmit l) window pace = cond (holds k l.number l.size) (put k l.number in_flight) k
-after k (Withdraw l) window pace = cond (holds k l.number l.size) (put k l.number withdrawn) k
-after k (Tell event) window pace = event_after k event
+abbrev pub after : Book → Option Request → ℕ → Option ℕ → Book
+after k None window pace = k
+after k (Some (Grant size time)) window pace = granted k size time (grant_check k size time window) pace
+after k (Some (Transmit l)) window pace = cond (holds k l) (put k l.number in_flight) k
+after k (Some (Withdraw l)) window pace = cond (holds k l) (put k l.number withdrawn) k
+after k (Some (Tell event)) window pace = event_after k event
 
 -- the bytes of a transmit that is accepted
-abbrev pub sent_by : Book → Request → ℕ
-sent_by k Nothing = 0
-sent_by k (Grant size time) = 0
-sent_by k (Transmit l) = cond (holds k l.number l.size) l.size 0
-sent_by k (Withdraw l) = 0
-sent_by k (Tell event) = 0
+abbrev pub sent_by : Book → Option Request → ℕ
+sent_by k None = 0
+sent_by k (Some (Grant size time)) = 0
+sent_by k (Some (Transmit l)) = cond (holds k l) l.size 0
+sent_by k (Some (Withdraw l)) = 0
+sent_by k (Some (Tell event)) = 0

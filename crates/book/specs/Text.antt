@@ -1,13 +1,12 @@
 -- An answer as it is printed: `n` and the number that was granted, `ok`, `r` and the refusal's number, or `-` where no call was made.
 -- Assumes nothing.
-use Rattle.std.specs.Prelude.{ℕ, List, ◌++◌, codes, decimal}
+use Rattle.std.specs.Prelude.{ℕ, List, ◌++◌, Some, None, Ok, Err, Option, codes, decimal}
 use Rattle.refusals.specs.Refusals.{number_of}
-use Rattle.book.specs.declared.call.Answer.{Answer}
-use Rattle.book.specs.declared.call.Answer.TheVariants.{NoCall, Granted, Done, Refused, HandedBack}
+use Rattle.book.specs.declared.call.Accepted.TheVariants.{Granted, Done}
+use Rattle.book.specs.Book.{Answer}
 
-abbrev pub answer_text : Answer → List ℕ
-answer_text NoCall = codes "-"
-answer_text (Granted l) = codes "n" ++ decimal l.number
-answer_text Done = codes "ok"
-answer_text (Refused e) = codes "r" ++ decimal (number_of e)
-answer_text (HandedBack l) = codes "r9"
+abbrev pub answer_text : Option Answer → List ℕ
+answer_text None = codes "-"
+answer_text (Some (Ok (Granted l))) = codes "n" ++ decimal l.number
+answer_text (Some (Ok Done)) = codes "ok"
+answer_text (Some (Err e)) = codes "r" ++ decimal (number_of e)

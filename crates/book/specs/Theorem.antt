@@ -6,14 +6,14 @@
 --      transmitted = acknowledged + lost + in flight.
 --   c  No accepted grant has brought the book's bytes held and in flight above the window at that grant, and none was refused 7 while
 --      these were at most (floor - 1) * MTU.
-use Rattle.std.specs.Prelude.{◌≡◌, ℕ, ◌+◌, ◌-◌, ◌*◌, ◌^◌, ◌<◌, ◌≤◌, List, [], ◌∷◌, length, Ok, Err, Option}
+use Rattle.std.specs.Prelude.{◌≡◌, ℕ, ◌+◌, ◌-◌, ◌*◌, ◌^◌, ◌<◌, ◌≤◌, List, [], ◌∷◌, length, Some, None, Ok, Err, Option}
 use Rattle.refusals.specs.declared.Refusal.TheVariants.{Window}
 use Rattle.congestion.specs.Meaning.{Meaning}
 use Rattle.cells.specs.Tables.{Checked}
 use Rattle.path.specs.Paths.{PathState, reported}
 use Rattle.path.specs.declared.report.Report.{Report}
 use Rattle.book.specs.declared.call.Request.{Request}
-use Rattle.book.specs.declared.call.Request.TheVariants.{NoCall as Nothing, Grant, Transmit, Withdraw, Tell}
+use Rattle.book.specs.declared.call.Request.TheVariants.{Grant, Transmit, Withdraw, Tell}
 use Rattle.book.specs.declared.call.Step.{Step}
 use Rattle.book.specs.Book.{Book, Entry, in_flight, acknowledged, lost, bytes_in, bytes_out, grant_check, paced_check, answer, after, sent_by}
 use Rattle.book.specs.Agreement.{Agrees, Counted}
@@ -38,13 +38,13 @@ abbrev pub Verdict : ℕ → Book → ℕ → Book → Checked (Unit {0}) → Ty
 Verdict floor k window k' (Ok u) = bytes_out k' ≤ window
 Verdict floor k window k' (Err e) = e ≡ Window → (floor - 1) * k.mtu < bytes_out k
 
-abbrev pub GrantLaw : ℕ → Book → Request → ℕ → Option ℕ → Type 0
-GrantLaw floor k Nothing window pace = Unit {0}
-GrantLaw floor k (Grant size time) window pace =
-    Verdict floor k window (after k (Grant size time) window pace) (paced_check (grant_check k size time window) pace)
-GrantLaw floor k (Transmit l) window pace = Unit {0}
-GrantLaw floor k (Withdraw l) window pace = Unit {0}
-GrantLaw floor k (Tell event) window pace = Unit {0}
+abbrev pub GrantLaw : ℕ → Book → Option Request → ℕ → Option ℕ → Type 0
+GrantLaw floor k None window pace = Unit {0}
+GrantLaw floor k (Some (Grant size time)) window pace =
+    Verdict floor k window (after k (Some (Grant size time)) window pace) (paced_check (grant_check k size time window) pace)
+GrantLaw floor k (Some (Transmit l)) window pace = Unit {0}
+GrantLaw floor k (Some (Withdraw l)) window pace = Unit {0}
+GrantLaw floor k (Some (Tell event)) window pace = Unit {0}
 
 abbrev pub Granted : ℕ → Book → List Step → Type 0
 Granted floor k [] = Unit {0}

@@ -1,4 +1,5 @@
 // A call of a path as it is asked for, as it is made, and what came of it.
+use cells::table::Label;
 use refusals::Refusal;
 use values::mtu::Mtu;
 
@@ -33,42 +34,33 @@ pub enum Call {
     Tell(Event),
 }
 
-/// A permit by its number and size.
-#[derive(Clone, Copy)]
-pub struct Label {
-    pub number: u64,
-    pub size: u16,
-}
-
 /// A call as it is made.
 #[derive(Clone, Copy)]
 pub enum Request {
-    /// None is made: the purse has no permit at that place, or no room for one.
-    NoCall,
     Grant { size: u16, time: u64 },
     Transmit(Label),
     Withdraw(Label),
     Tell(Event),
 }
 
+/// What a call that was not refused gives.
 #[derive(Clone, Copy)]
-pub enum Answer {
-    /// None, since no call was made.
-    NoCall,
+pub enum Accepted {
     /// A permit went out.
     Granted(Label),
     Done,
-    Refused(Refusal),
-    /// Refused 9: the permit came back.
-    HandedBack(Label),
 }
+
+/// Refusal 9 says which permit came back.
+pub type Answer = Result<Accepted, Refusal<Label>>;
 
 /// A call, with the window and the pacer's answer that it met, and its own answer.
 #[derive(Clone, Copy)]
 pub struct Step {
     pub call: Call,
-    pub request: Request,
+    /// None is made where the purse has no permit at that place, or no room for one.
+    pub request: Option<Request>,
     pub window: u64,
     pub pace: Option<u64>,
-    pub answer: Answer,
+    pub answer: Option<Answer>,
 }

@@ -4,4 +4,5 @@
 pub mod call;
 mod purse;
 pub mod run;
+pub mod step;
 pub mod text;

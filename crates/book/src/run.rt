@@ -1,76 +1,75 @@
 // Calls on a path, one and many, and what stands after them.
-ghost use Rattle.std.specs.Prelude.{◌≡◌, ℕ, ◌≤◌, true, List, [], ◌∷◌, ◌++◌, length, take, None, slice_index_or};
+ghost use Rattle.std.specs.Prelude.{◌≡◌, ℕ, ◌≤◌, true, List, [], ◌∷◌, ◌++◌, length, take, None, Some, slice_index_or};
 ghost use Rattle.congestion.specs.Meaning.{Meaning};
-ghost use Rattle.path.specs.Paths.{state_of, opened as begun};
-ghost use Rattle.book.specs.Book.{Book, opened, said as verdict};
-ghost use Rattle.book.specs.Requests.{rules, pace_for, event_answer, event_after};
-ghost use Rattle.book.specs.Settings.{unmade, Backed, request_of, Setting, Performed, noted, next, last, log, has_room, settled, restored};
+ghost use Rattle.path.specs.Paths.{state_of};
+ghost use Rattle.book.specs.Book.{Book, opened, widened as refused, said as verdict};
+ghost use Rattle.book.specs.Requests.{pace_for, event_answer, event_after};
+ghost use Rattle.book.specs.Settings.{Backed, request_of, setting_of, begun, Performed, noted, next, last, log, has_room, settled, restored};
 ghost use Rattle.book.specs.Theorem.{Modest, Stands};
 
-use crate::call::{Answer, Call, Event, Label, Request, Step};
-use crate::purse::{label, presented, put, room_at, take};
+use crate::call::{Accepted, Answer, Call, Event, Request, Step};
+use crate::purse::{presented, put, room_at, take};
+use cells::table::Label;
 use congestion::controller::Controller;
 use path::path::Path;
 use path::permit::Permit;
 use refusals::Refusal;
 use values::opening::Opening;
 
-impl Step {
-    /// A call that was not made yet.
-    pub fn new(call: Call) -> Step
-        ensures { result ≡ unmade call }
-    {
-        Step {
-            call,
-            request: Request::NoCall,
-            window: 0,
-            pace: None,
-            answer: Answer::NoCall,
-        }
-    }
-}
-
 // The call as it is made.
-fn request(purse: &[Option<Permit>], call: Call) -> Request
+fn request(purse: &[Option<Permit>], call: Call) -> Option<Request>
     ensures { result ≡ request_of purse.now call }
 {
     match call {
-        Call::Grant { size, time, place } if room_at(purse, place) => Request::Grant { size, time },
-        Call::Grant { .. } => Request::NoCall,
-        Call::Transmit { place } => match presented(purse, place) {
-            Some(label) => Request::Transmit(label),
-            None => Request::NoCall,
-        },
-        Call::Withdraw { place } => match presented(purse, place) {
-            Some(label) => Request::Withdraw(label),
-            None => Request::NoCall,
-        },
-        Call::Tell(event) => Request::Tell(event),
+        Call::Grant { size, time, place } => {
+            room_at(purse, place).then_some(Request::Grant { size, time })
+        }
+        Call::Transmit { place } => presented(purse, place).map(Request::Transmit),
+        Call::Withdraw { place } => presented(purse, place).map(Request::Withdraw),
+        Call::Tell(event) => Some(Request::Tell(event)),
     }
 }
 
 // What the pacer would answer to a grant; other requests do not ask it.
-fn pace<C: Controller>(path: &Path<C>, request: Request) -> Option<u64>
-    ensures { result ≡ pace_for (rules C.meaning C.after_sent C.after_ack C.after_end C.after_loss C.after_mtu) (state_of C.model path.now) request }
+fn pace<C: Controller>(path: &Path<C>, request: Option<Request>) -> Option<u64>
+    ensures { result ≡ pace_for C.rules (state_of C.model path.now) request }
 {
-    match request {
+    match request? {
         Request::Grant { size, time } => path.pacing(size, time),
-        Request::NoCall | Request::Transmit(_) | Request::Withdraw(_) | Request::Tell(_) => None,
+        Request::Transmit(_) | Request::Withdraw(_) | Request::Tell(_) => None,
+    }
+}
+
+// A call that presents no permit is never refused 9, so its refusals are among those of any call. It is no `From`: both types are of
+// other crates.
+fn widened(refusal: Refusal) -> Refusal<Label>
+    ensures { result ≡ refused refusal }
+{
+    match refusal {
+        Refusal::OutsideLimit(layer) => Refusal::OutsideLimit(layer),
+        Refusal::Size => Refusal::Size,
+        Refusal::Time => Refusal::Time,
+        Refusal::Held => Refusal::Held,
+        Refusal::NumbersExhausted => Refusal::NumbersExhausted,
+        Refusal::CellTaken => Refusal::CellTaken,
+        Refusal::Window => Refusal::Window,
+        Refusal::Paced(time) => Refusal::Paced(time),
+        Refusal::NotHeld(none) => match none {},
+        Refusal::NotInFlight => Refusal::NotInFlight,
+        Refusal::Malformed => Refusal::Malformed,
+        Refusal::UnknownKind => Refusal::UnknownKind,
     }
 }
 
 fn said(answer: Result<(), Refusal>) -> Answer
     ensures { result ≡ verdict answer }
 {
-    match answer {
-        Ok(()) => Answer::Done,
-        Err(refusal) => Answer::Refused(refusal),
-    }
+    answer.map(|()| Accepted::Done).map_err(widened)
 }
 
-fn tell<C: Controller>(path: &mut Path<C>, event: Event) -> Answer
+fn tell<C: Controller>(path: &mut Path<C>, event: Event) -> Result<(), Refusal>
     ensures answer { result ≡ event_answer (state_of C.model path.old) event }
-    ensures state { state_of C.model path.new ≡ event_after (rules C.meaning C.after_sent C.after_ack C.after_end C.after_loss C.after_mtu) (state_of C.model path.old) event }
+    ensures state { state_of C.model path.new ≡ event_after C.rules (state_of C.model path.old) event }
 {
     match event {
         Event::Ack {
@@ -78,39 +77,40 @@ fn tell<C: Controller>(path: &mut Path<C>, event: Event) -> Answer
             delay,
             app_limited,
             time,
-        } => said(path.ack(number, delay, app_limited, time)),
-        Event::End { app_limited, time } => said(path.end(app_limited, time)),
+        } => path.ack(number, delay, app_limited, time),
+        Event::End { app_limited, time } => path.end(app_limited, time),
         Event::Lose {
             number,
             persistent,
             time,
-        } => said(path.lose(number, persistent, time)),
+        } => path.lose(number, persistent, time),
         Event::SetMtu(mtu) => {
             path.set_mtu(mtu);
-            Answer::Done
+            Ok(())
         }
     }
 }
 
+// Path and purse stay two arguments, as callers have them: a struct of the two loans would be made and taken apart at each call.
 fn grant<C: Controller>(
     path: &mut Path<C>,
     purse: &mut [Option<Permit>],
     size: u16,
     time: u64,
     place: usize,
-) -> Answer
-    ensures { Performed (rules C.meaning C.after_sent C.after_ack C.after_end C.after_loss C.after_mtu) (record { path = state_of C.model path.old; purse = purse.old }) (Call.Grant size time place) result (record { path = state_of C.model path.new; purse = purse.new }) }
+) -> Option<Answer>
+    ensures { Performed C.rules (setting_of C.model path.old purse.old) (Call.Grant size time place) result (setting_of C.model path.new purse.new) }
 {
     if !room_at(purse, place) {
-        return Answer::NoCall;
+        return None;
     }
     match path.grant(size, time) {
         Ok(permit) => {
-            let granted = label(&permit);
+            let granted = permit.label();
             put(purse, place, permit);
-            Answer::Granted(granted)
+            Some(Ok(Accepted::Granted(granted)))
         }
-        Err(refusal) => Answer::Refused(refusal),
+        Err(refusal) => Some(Err(widened(refusal))),
     }
 }
 
@@ -126,44 +126,54 @@ fn settle(
     ensures purse { purse.new ≡ restored purse.old place answer }
 {
     let Err(refusal) = answer else {
-        return Answer::Done;
+        return Ok(Accepted::Done);
     };
     if let Some(permit) = refusal.into_permit() {
         put(purse, place, permit);
     }
-    Answer::HandedBack(presented)
+    Err(Refusal::NotHeld(presented))
 }
 
-fn transmit<C: Controller>(path: &mut Path<C>, purse: &mut [Option<Permit>], place: usize) -> Answer
-    ensures { Performed (rules C.meaning C.after_sent C.after_ack C.after_end C.after_loss C.after_mtu) (record { path = state_of C.model path.old; purse = purse.old }) (Call.Transmit place) result (record { path = state_of C.model path.new; purse = purse.new }) }
+// `withdraw` differs by the path's call alone. One function over that call would know what it does only by `F.post` on two loans of the
+// path, which takes more lines to say and to prove than these four.
+fn transmit<C: Controller>(
+    path: &mut Path<C>,
+    purse: &mut [Option<Permit>],
+    place: usize,
+) -> Option<Answer>
+    ensures { Performed C.rules (setting_of C.model path.old purse.old) (Call.Transmit place) result (setting_of C.model path.new purse.new) }
 {
-    let Some(permit) = take(purse, place) else {
-        return Answer::NoCall;
-    };
-    let presented = label(&permit);
+    let permit = take(purse, place)?;
+    let presented = permit.label();
     let answer = path.transmit(permit);
-    settle(purse, place, presented, answer)
+    Some(settle(purse, place, presented, answer))
 }
 
-fn withdraw<C: Controller>(path: &mut Path<C>, purse: &mut [Option<Permit>], place: usize) -> Answer
-    ensures { Performed (rules C.meaning C.after_sent C.after_ack C.after_end C.after_loss C.after_mtu) (record { path = state_of C.model path.old; purse = purse.old }) (Call.Withdraw place) result (record { path = state_of C.model path.new; purse = purse.new }) }
+fn withdraw<C: Controller>(
+    path: &mut Path<C>,
+    purse: &mut [Option<Permit>],
+    place: usize,
+) -> Option<Answer>
+    ensures { Performed C.rules (setting_of C.model path.old purse.old) (Call.Withdraw place) result (setting_of C.model path.new purse.new) }
 {
-    let Some(permit) = take(purse, place) else {
-        return Answer::NoCall;
-    };
-    let presented = label(&permit);
+    let permit = take(purse, place)?;
+    let presented = permit.label();
     let answer = path.withdraw(permit);
-    settle(purse, place, presented, answer)
+    Some(settle(purse, place, presented, answer))
 }
 
-fn perform<C: Controller>(path: &mut Path<C>, purse: &mut [Option<Permit>], call: Call) -> Answer
-    ensures { Performed (rules C.meaning C.after_sent C.after_ack C.after_end C.after_loss C.after_mtu) (record { path = state_of C.model path.old; purse = purse.old }) call result (record { path = state_of C.model path.new; purse = purse.new }) }
+fn perform<C: Controller>(
+    path: &mut Path<C>,
+    purse: &mut [Option<Permit>],
+    call: Call,
+) -> Option<Answer>
+    ensures { Performed C.rules (setting_of C.model path.old purse.old) call result (setting_of C.model path.new purse.new) }
 {
     match call {
         Call::Grant { size, time, place } => grant(path, purse, size, time, place),
         Call::Transmit { place } => transmit(path, purse, place),
         Call::Withdraw { place } => withdraw(path, purse, place),
-        Call::Tell(event) => tell(path, event),
+        Call::Tell(event) => Some(said(tell(path, event))),
     }
 }
 
@@ -171,9 +181,9 @@ fn perform<C: Controller>(path: &mut Path<C>, purse: &mut [Option<Permit>], call
 ///
 /// Whatever list of calls led to this path from one begun afresh: what stands after that list stands with this call added.
 pub fn call<C: Controller>(path: &mut Path<C>, purse: &mut [Option<Permit>], call: Call) -> Step
-    ensures step { result ≡ noted (rules C.meaning C.after_sent C.after_ack C.after_end C.after_loss C.after_mtu) (record { path = state_of C.model path.old; purse = purse.old }) call }
-    ensures setting { ◌≡◌ {A = Setting _} (record { path = state_of C.model path.new; purse = purse.new }) (next (rules C.meaning C.after_sent C.after_ack C.after_end C.after_loss C.after_mtu) (record { path = state_of C.model path.old; purse = purse.old }) call) }
-    ensures stands { (k : Book) (m : Meaning) (steps : List Step) → Modest m → Stands C.meaning C.least k m steps (state_of C.model path.old) → Stands C.meaning C.least k m (steps ++ result ∷ []) (state_of C.model path.new) }
+    ensures step { result ≡ noted C.rules (setting_of C.model path.old purse.old) call }
+    ensures setting { setting_of C.model path.new purse.new ≡ next C.rules (setting_of C.model path.old purse.old) call }
+    ensures stands { (k : Book) (m : Meaning) (steps : List Step) → Modest m → Stands C.rules.meaning C.FLOOR k m steps (state_of C.model path.old) → Stands C.rules.meaning C.FLOOR k m (steps ++ result ∷ []) (state_of C.model path.new) }
     ensures backed { length purse.old ≡ 1 → Backed path.old.tracker.table purse.old → Backed path.new.tracker.table purse.new }
 {
     let request = request(purse, call);
@@ -198,9 +208,9 @@ pub fn run<C: Controller>(
     steps: &mut [Step],
     purse: &mut [Option<Permit>],
 ) -> Path<C>
-    ensures log { steps.new ≡ log (rules C.meaning C.after_sent C.after_ack C.after_end C.after_loss C.after_mtu) (record { path = begun C.meaning C.after_mtu (C.model controller) opening; purse = purse.old }) steps.old }
-    ensures last { ◌≡◌ {A = Setting _} (record { path = state_of C.model result; purse = purse.new }) (last (rules C.meaning C.after_sent C.after_ack C.after_end C.after_loss C.after_mtu) (record { path = begun C.meaning C.after_mtu (C.model controller) opening; purse = purse.old }) steps.old) }
-    ensures stands { Modest (C.meaning (C.model controller)) → (i : ℕ) → i ≤ length steps.old → Stands C.meaning C.least (opened opening) (C.meaning (C.model controller)) (take i steps.new) (last (rules C.meaning C.after_sent C.after_ack C.after_end C.after_loss C.after_mtu) (record { path = begun C.meaning C.after_mtu (C.model controller) opening; purse = purse.old }) (take i steps.old)).path }
+    ensures log { steps.new ≡ log C.rules (begun C.rules (C.model controller) opening purse.old) steps.old }
+    ensures last { setting_of C.model result purse.new ≡ last C.rules (begun C.rules (C.model controller) opening purse.old) steps.old }
+    ensures stands { Modest (C.rules.meaning (C.model controller)) → (i : ℕ) → i ≤ length steps.old → Stands C.rules.meaning C.FLOOR (opened opening) (C.rules.meaning (C.model controller)) (take i steps.new) (last C.rules (begun C.rules (C.model controller) opening purse.old) (take i steps.old)).path }
     ensures backed { length purse.old ≡ 1 → slice_index_or purse.old 0 None ≡ None → Backed result.tracker.table purse.new }
 {
     let mut path = Path::new(controller, opening);

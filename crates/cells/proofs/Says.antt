@@ -1,6 +1,6 @@
 -- What an answer of a table says of its cells. Assumes nothing.
-use Rattle.std.proofs.Common.{◌≡◌, ℕ, ◌+◌, ◌%◌, ◌^◌, ◌<◌, ◌≤◌, Bool, true, false, cond, ◌&&◌, eqb, length, is_some, Some, None, Ok, Err, Option, sym, refl, ap, ◌∙◌, ⊎_elim, arith, get_or-set_same}
-use Rattle.std.proofs.lemmas.Bool.{cases_Bool, both_ways, or_parts, and_parts, eqb-true, eqb-false, ltb-false, not-false, and_from, eq-eqb, cond-true, cond-false}
+use Rattle.std.proofs.Common.{◌≡◌, ℕ, ◌+◌, ◌^◌, ◌≤◌, Bool, true, false, cond, ◌&&◌, eqb, Some, None, Ok, Err, sym, refl, ap, ◌∙◌}
+use Rattle.std.proofs.lemmas.Bool.{or_parts, and_parts, eqb-true, eqb-false, ltb-false, not-false}
 use Rattle.std.specs.declared.convert.Infallible.{Infallible as NoPermit}
 use Rattle.refusals.specs.declared.Refusal.{Refusal}
 use Rattle.refusals.specs.declared.Refusal.TheVariants.{Time, NotInFlight}
@@ -8,17 +8,23 @@ use Rattle.cells.specs.declared.table.Cell.{Cell}
 use Rattle.cells.specs.declared.table.Cell.TheVariants.{Free, Held, InFlight}
 use Rattle.cells.specs.declared.table.CellTable.{CellTable}
 use Rattle.cells.specs.declared.table.Datagram.{Datagram}
-use Rattle.cells.specs.Tables.{Checked, is_taken, cell_of, untimely, admitted, with_held, held_as, is_held, in_flight_as, landing}
+use Rattle.cells.specs.declared.table.Label.{Label}
+use Rattle.cells.specs.Tables.{Checked, is_taken, cell_of, untimely, admitted, held_as, in_flight_as, landing}
 
 -- a check that did not refuse
 pub passed : {A : Type 0} (t : Bool) (e : Refusal NoPermit) (r : Checked A) (x : A) → cond t (Err e) r ≡ Ok x → (t ≡ false) × (r ≡ Ok x)
-passed true e r x h = let z : ◌≡◌ {A = ℕ} 0 1 = cc in absurd (omega arith)
+passed true e r x h = (cc, cc)
 passed false e r x h = (refl, h)
+
+-- a choice that is not its second part
+chosen : {A : Type 0} (t : Bool) (a b c : A) → (b ≡ c → ⊥) → cond t a b ≡ c → (t ≡ true) × (a ≡ c)
+chosen true a b c other h = (refl, h)
+chosen false a b c other h = absurd (other h)
 
 pub free_is : (c : Cell) → is_taken c ≡ false → c ≡ Free
 free_is Free h = refl
-free_is (Held d) h = absurd (both_ways _ h refl)
-free_is (InFlight d) h = absurd (both_ways _ h refl)
+free_is (Held d) h = cc
+free_is (InFlight d) h = cc
 
 -- a grant that passed all its checks
 pub record Admitted (b : CellTable) (size time window : ℕ) : Type 0 where
@@ -50,40 +56,28 @@ admitted_says b size time window h =
     }
 
 -- a number that is held with that size
-pub record HeldAs (c : Cell) (n size : ℕ) (d : Datagram) : Type 0 where
+pub record HeldAs (c : Cell) (l : Label) (d : Datagram) : Type 0 where
   pub was : c ≡ Held d
-  pub number : d.number ≡ n
-  pub size_is : d.size ≡ size
+  pub number : d.number ≡ l.number
+  pub size_is : d.size ≡ l.size
 
-pub held_says : (c : Cell) (n size : ℕ) (d : Datagram) → held_as c n size ≡ Some d → HeldAs c n size d
-held_says Free n size d h = let z : ◌≡◌ {A = ℕ} 0 1 = cc in absurd (omega arith)
-held_says (InFlight y) n size d h = let z : ◌≡◌ {A = ℕ} 0 1 = cc in absurd (omega arith)
-held_says (Held y) n size d h =
-    ⊎_elim
-    (λ t.
-    let two = and_parts _ _ t in
-    let e : ◌≡◌ {A = Option Datagram} (Some y) (Some d) = sym (cond-true _ (Some y) None t) ∙ h in
-    let i : y ≡ d = cc in
-    record { was = ap Held i; number = ap (λ z. z.number) (sym i) ∙ eqb-true _ _ two.0; size_is = ap (λ z. z.size) (sym i) ∙ eqb-true _ _ two.1 })
-    (λ t.
-    let e : ◌≡◌ {A = Option Datagram} None (Some d) = sym (cond-false _ (Some y) None t) ∙ h in
-    let z : ◌≡◌ {A = ℕ} 0 1 = cc in absurd (omega arith))
-    (cases_Bool (eqb y.number n && eqb y.size size))
+pub held_says : (c : Cell) (l : Label) (d : Datagram) → held_as c l ≡ Some d → HeldAs c l d
+held_says Free l d h = absurd cc
+held_says (InFlight y) l d h = absurd cc
+held_says (Held y) l d h =
+    let c = chosen (eqb y.number l.number && eqb y.size l.size) (Some y) None (Some d) (λ e. cc) h in
+    let is : y ≡ d = cc in
+    let two = and_parts _ _ c.0 in
+    record { was = ap Held is; number = ap (λ z. z.number) (sym is) ∙ eqb-true _ _ two.0; size_is = ap (λ z. z.size) (sym is) ∙ eqb-true _ _ two.1 }
 
 -- a number that is in flight
 pub in_flight_says : (c : Cell) (n : ℕ) (d : Datagram) → in_flight_as c n ≡ Ok d → (c ≡ InFlight d) × (d.number ≡ n)
-in_flight_says Free n d h = (cc, let z : ◌≡◌ {A = ℕ} 0 1 = cc in absurd (omega arith))
-in_flight_says (Held y) n d h = (cc, let z : ◌≡◌ {A = ℕ} 0 1 = cc in absurd (omega arith))
+in_flight_says Free n d h = (cc, cc)
+in_flight_says (Held y) n d h = (cc, cc)
 in_flight_says (InFlight y) n d h =
-    ⊎_elim
-    (λ t.
-    let e : ◌≡◌ {A = Checked Datagram} (Ok y) (Ok d) = sym (cond-true _ (Ok y) (Err NotInFlight) t) ∙ h in
-    let i : y ≡ d = cc in
-    (ap InFlight i, ap (λ z. z.number) (sym i) ∙ eqb-true _ _ t))
-    (λ t.
-    let e : ◌≡◌ {A = Checked Datagram} (Err NotInFlight) (Ok d) = sym (cond-false _ (Ok y) (Err NotInFlight) t) ∙ h in
-    let z : ◌≡◌ {A = ℕ} 0 1 = cc in absurd (omega arith))
-    (cases_Bool (eqb y.number n))
+    let c = chosen {A = Checked Datagram} (eqb y.number n) (Ok y) (Err NotInFlight) (Ok d) (λ e. cc) h in
+    let is : y ≡ d = cc in
+    (ap InFlight is, ap (λ z. z.number) (sym is) ∙ eqb-true _ _ c.0)
 
 -- an ack or a loss that passed its checks
 pub record Landing (b : CellTable) (n time : ℕ) (d : Datagram) : Type 0 where
@@ -96,11 +90,3 @@ landing_says b n time d h =
     let p = passed (untimely b.latest time) Time (in_flight_as (cell_of b n) n) d h in
     let r = in_flight_says (cell_of b n) n d p.1 in
     record { timely = p.0; was = r.0; number = r.1 }
-
--- what was just held is held
-pub held_next : (b : CellTable) (size time : ℕ) → length b.cells ≡ 256 → is_some (is_held (with_held b size time) b.next size) ≡ true
-held_next b size time len =
-    let inside : b.next % 256 < length b.cells = omega arith in
-    let d : Datagram = record { number = b.next; size = size; time = time } in
-    ap (λ z. is_some (held_as z b.next size)) (get_or-set_same b.cells (b.next % 256) (Held d) Free inside)
-    ∙ ap (λ t. is_some (cond t (Some d) None)) (and_from _ _ (eq-eqb b.next b.next refl) (eq-eqb size size refl))

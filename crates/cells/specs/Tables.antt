@@ -5,7 +5,7 @@
 -- pass the window with it (7), the first of these that applies. A number is held with the size that it was granted with, goes in flight or
 -- is withdrawn, and a number in flight is acknowledged or lost; each is in one place, and the cell of a number that has come to its end
 -- is free.
-use Rattle.std.specs.Prelude.{ℕ, ◌+◌, ◌-◌, ◌%◌, Bool, true, false, cond, not, ◌&&◌, ◌||◌, replicate, Some, None, Ok, Err, Option, Result, ◌==◌, nat_lt, slice_index_or, slice_set}
+use Rattle.std.specs.Prelude.{ℕ, ◌+◌, ◌-◌, ◌%◌, Bool, true, false, cond, not, ◌&&◌, ◌||◌, replicate, Some, None, Ok, Err, Option, Result, IsSome, ◌==◌, nat_lt, slice_index_or, slice_set}
 use Rattle.std.specs.declared.convert.Infallible.{Infallible as NoPermit}
 use Rattle.refusals.specs.declared.Refusal.{Refusal}
 use Rattle.refusals.specs.declared.Refusal.TheVariants.{Size, Time, Held as HeldAlready, NumbersExhausted, CellTaken, Window, NotInFlight}
@@ -15,6 +15,7 @@ use Rattle.cells.specs.declared.table.Cell.TheVariants.{Free, Held, InFlight}
 use Rattle.cells.specs.declared.table.CellTable.{CellTable}
 use Rattle.cells.specs.declared.table.Counts.{Counts}
 use Rattle.cells.specs.declared.table.Datagram.{Datagram}
+use Rattle.cells.specs.declared.table.Label.{Label}
 
 abbrev pub Checked : Type 0 → Type 0
 Checked A = Result A (Refusal NoPermit)
@@ -142,19 +143,23 @@ abbrev pub number_if : ℕ → Checked (Unit {0}) → Checked ℕ
 number_if n (Ok u) = Ok n
 number_if n (Err e) = Err e
 
--- the datagram that a cell holds under that number and size
-abbrev pub held_as : Cell → ℕ → ℕ → Option Datagram
-held_as Free n size = None
-held_as (Held d) n size = cond (d.number == n && d.size == size) (Some d) None
-held_as (InFlight d) n size = None
+-- the datagram that a cell holds with that number and size
+abbrev pub held_as : Cell → Label → Option Datagram
+held_as Free l = None
+held_as (Held d) l = cond (d.number == l.number && d.size == l.size) (Some d) None
+held_as (InFlight d) l = None
 
-abbrev pub is_held : CellTable → ℕ → ℕ → Option Datagram
-is_held b n size = held_as (cell_of b n) n size
+abbrev pub is_held : CellTable → Label → Option Datagram
+is_held b l = held_as (cell_of b l.number) l
 
-abbrev pub transmitted_if : CellTable → ℕ → ℕ → Option Datagram → CellTable
-transmitted_if b n size None = b
-transmitted_if b n size (Some d) =
-    with_cell b n (InFlight d) (b.held_bytes - size) (b.in_flight_bytes + size)
+-- a datagram is held with that number and size
+abbrev pub IsHeld : CellTable → Label → Type 0
+IsHeld b l = IsSome (is_held b l)
+
+abbrev pub transmitted_if : CellTable → Label → Option Datagram → CellTable
+transmitted_if b l None = b
+transmitted_if b l (Some d) =
+    with_cell b l.number (InFlight d) (b.held_bytes - l.size) (b.in_flight_bytes + l.size)
     (record {
       held = b.counts.held - 1;
       in_flight = b.counts.in_flight + 1;
@@ -163,13 +168,13 @@ transmitted_if b n size (Some d) =
       withdrawn = b.counts.withdrawn;
     })
 
-abbrev pub transmitted : CellTable → ℕ → ℕ → CellTable
-transmitted b n size = transmitted_if b n size (is_held b n size)
+abbrev pub transmitted : CellTable → Label → CellTable
+transmitted b l = transmitted_if b l (is_held b l)
 
-abbrev pub withdrawn_if : CellTable → ℕ → ℕ → Option Datagram → CellTable
-withdrawn_if b n size None = b
-withdrawn_if b n size (Some d) =
-    with_cell b n Free (b.held_bytes - size) b.in_flight_bytes
+abbrev pub withdrawn_if : CellTable → Label → Option Datagram → CellTable
+withdrawn_if b l None = b
+withdrawn_if b l (Some d) =
+    with_cell b l.number Free (b.held_bytes - l.size) b.in_flight_bytes
     (record {
       held = b.counts.held - 1;
       in_flight = b.counts.in_flight;
@@ -178,8 +183,8 @@ withdrawn_if b n size (Some d) =
       withdrawn = b.counts.withdrawn + 1;
     })
 
-abbrev pub withdrawn : CellTable → ℕ → ℕ → CellTable
-withdrawn b n size = withdrawn_if b n size (is_held b n size)
+abbrev pub withdrawn : CellTable → Label → CellTable
+withdrawn b l = withdrawn_if b l (is_held b l)
 
 -- the datagram that is in flight in a cell under that number
 abbrev pub in_flight_as : Cell → ℕ → Checked Datagram

@@ -1,9 +1,17 @@
 // The cells of a path and what they add up to, as plain data.
+ghost use Rattle.std.specs.Prelude.{◌≡◌};
+
 use values::mtu::Mtu;
 
-pub(crate) mod steps;
+/// What a permit says of its datagram: the number, and the size in bytes.
+#[derive(Clone, Copy)]
+pub struct Label {
+    pub number: u64,
+    pub size: u16,
+}
 
 /// A datagram by its number, its size in bytes and the time of its grant in nanoseconds.
+// It has no `Label` inside: the definitions would read `d.label.number` where they read `d.number`, and say no more.
 #[derive(Clone, Copy)]
 pub struct Datagram {
     pub number: u64,
@@ -21,8 +29,22 @@ pub enum Cell {
     InFlight(Datagram),
 }
 
+impl Cell {
+    ghost use Rattle.cells.specs.Sums.{in_flight_size};
+
+    // The size of its datagram, where that is in flight.
+    pub(crate) fn size_in_flight(self) -> u16
+        ensures { result ≡ in_flight_size self }
+    {
+        match self {
+            Cell::InFlight(datagram) => datagram.size,
+            Cell::Free | Cell::Held(_) => 0,
+        }
+    }
+}
+
 /// How many numbers are in each of the five places.
-#[derive(Clone, Copy)]
+#[derive(Clone, Copy, Default)]
 pub struct Counts {
     pub held: u64,
     pub in_flight: u64,

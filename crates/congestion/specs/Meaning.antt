@@ -13,13 +13,13 @@ use Rattle.values.specs.Saturating.{sum}
 use Rattle.congestion.specs.declared.totals.Totals.{Totals}
 
 abbrev pub add_sent : Totals → ℕ → Totals
-add_sent c n = record { sent = sum c.sent n; acked = c.acked; lost = c.lost }
+add_sent c n = record c { sent = sum c.sent n }
 
 abbrev pub add_acked : Totals → ℕ → Totals
-add_acked c n = record { sent = c.sent; acked = sum c.acked n; lost = c.lost }
+add_acked c n = record c { acked = sum c.acked n }
 
 abbrev pub add_lost : Totals → ℕ → Totals
-add_lost c n = record { sent = c.sent; acked = c.acked; lost = sum c.lost n }
+add_lost c n = record c { lost = sum c.lost n }
 
 pub record Meaning : Type 0 where
   pub mtu : ℕ
@@ -28,16 +28,16 @@ pub record Meaning : Type 0 where
 
 -- The meaning after each call, where n is the call's bytes or MTU, and w the window then, which only `on_sent` fixes.
 abbrev pub told_sent : Meaning → ℕ → Meaning
-told_sent m n = record { mtu = m.mtu; window = m.window; totals = add_sent m.totals n }
+told_sent m n = record m { totals = add_sent m.totals n }
 
 abbrev pub told_acked : Meaning → ℕ → ℕ → Meaning
-told_acked m n w = record { mtu = m.mtu; window = w; totals = add_acked m.totals n }
+told_acked m n w = record m { window = w; totals = add_acked m.totals n }
 
 abbrev pub told_end : Meaning → ℕ → Meaning
-told_end m w = record { mtu = m.mtu; window = w; totals = m.totals }
+told_end m w = record m { window = w }
 
 abbrev pub told_lost : Meaning → ℕ → ℕ → Meaning
-told_lost m n w = record { mtu = m.mtu; window = w; totals = add_lost m.totals n }
+told_lost m n w = record m { window = w; totals = add_lost m.totals n }
 
 abbrev pub told_mtu : Meaning → ℕ → ℕ → Meaning
-told_mtu m n w = record { mtu = n; window = w; totals = m.totals }
+told_mtu m n w = record m { mtu = n; window = w }

@@ -1,8 +1,8 @@
 // What every congestion controller offers, and the laws that each proves.
 ghost use Rattle.std.specs.Prelude.{◌≡◌, ℕ, ◌*◌, ◌≤◌, Bool, Option as Maybe};
-ghost use Rattle.rtt.specs.Estimates.{Estimate, estimate_of};
-ghost use Rattle.congestion.specs.Meaning.{Meaning, told_sent, told_acked, told_end, told_lost, told_mtu};
-ghost use Rattle.congestion.specs.declared.metrics.ControllerMetrics.{ControllerMetrics as Metrics};
+ghost use Rattle.rtt.specs.Estimates.{Estimate};
+ghost use Rattle.congestion.specs.Meaning.{told_sent, told_acked, told_end, told_lost, told_mtu};
+ghost use Rattle.congestion.specs.Rules.{Rules};
 
 use crate::metrics::ControllerMetrics;
 use rtt::estimator::RttEstimator;
@@ -14,49 +14,30 @@ use values::mtu::Mtu;
 /// unknown one what the laws say: how its five numbers change, and how small its window may be.
 pub trait Controller {
     /// The window is never less than so many datagrams of the MTU's size.
-    // A law cannot name the constant: `least` is its value there, and `floor_datagrams` ties the two.
     const FLOOR: u64;
 
-    ghost least: { ℕ };
+    ghost FLOOR: { ℕ };
 
     // The whole state as plain data, with no proof in it: two states are equal where their parts are.
     ghost Model: { Type 0 };
 
     ghost model: { Self → Model };
 
-    ghost meaning: { Model → Meaning };
-
-    ghost measured: { Model → Metrics };
-
-    ghost initial: { Model → ℕ };
-
-    // The state after each call, from the state before and what the call was told.
-    ghost after_sent: { Model → ℕ → ℕ → ℕ → Model };
-
-    ghost after_ack: { Model → ℕ → ℕ → ℕ → Bool → Estimate → Model };
-
-    ghost after_end: { Model → ℕ → ℕ → Bool → Maybe ℕ → Model };
-
-    ghost after_loss: { Model → ℕ → ℕ → Bool → ℕ → Model };
-
-    ghost after_mtu: { Model → ℕ → Model };
-
-    /// `FLOOR`.
-    fn floor_datagrams() -> u64
-        ensures { result ≡ least };
+    ghost rules: { Rules Model };
 
     /// One or more packets were just sent.
     fn on_sent(&mut self, time: u64, bytes: u64, last_packet_number: u64)
-        ensures { model self.new ≡ after_sent (model self.old) time bytes last_packet_number };
+        ensures { model self.new ≡ rules.sends (model self.old) time bytes last_packet_number };
 
     /// A packet's delivery was confirmed: `bytes` sent at `sent`.
     ///
     /// `app_limited` says whether the connection was blocked on the application's data before these
     /// acknowledgements came.
     fn on_ack(&mut self, time: u64, sent: u64, bytes: u64, app_limited: bool, rtt: &RttEstimator)
-        ensures { model self.new ≡ after_ack (model self.old) time sent bytes app_limited (estimate_of rtt.now) };
+        ensures { model self.new ≡ rules.acks (model self.old) time sent bytes app_limited rtt.now };
 
     /// Packets are acknowledged in batches, all with the same `time`: one of those batches has ended.
+    // There is no body here for those who do nothing then: none would keep the rules of every controller.
     fn on_end_acks(
         &mut self,
         time: u64,
@@ -64,7 +45,7 @@ pub trait Controller {
         app_limited: bool,
         largest_packet_num_acked: Option<u64>,
     )
-        ensures { model self.new ≡ after_end (model self.old) time in_flight app_limited largest_packet_num_acked };
+        ensures { model self.new ≡ rules.ends (model self.old) time in_flight app_limited largest_packet_num_acked };
 
     /// Packets were deemed lost, the latest of them sent at `sent`.
     ///
@@ -77,37 +58,37 @@ pub trait Controller {
         is_persistent_congestion: bool,
         lost_bytes: u64,
     )
-        ensures { model self.new ≡ after_loss (model self.old) time sent is_persistent_congestion lost_bytes };
+        ensures { model self.new ≡ rules.loses (model self.old) time sent is_persistent_congestion lost_bytes };
 
     /// The known MTU of the path has changed.
     fn on_mtu_update(&mut self, new_mtu: Mtu)
-        ensures { model self.new ≡ after_mtu (model self.old) new_mtu.value };
+        ensures { model self.new ≡ rules.resizes (model self.old) new_mtu.value };
 
     /// The bytes that may be in flight.
     fn window(&self) -> u64
-        ensures { result ≡ (meaning (model self.now)).window };
+        ensures { result ≡ (rules.meaning (model self.now)).window };
 
     /// What the controller has to say of itself, its window among it.
     fn metrics(&self) -> ControllerMetrics
-        ensures { result ≡ measured (model self.now) };
+        ensures { result ≡ rules.metrics (model self.now) };
 
     /// The window that the controller was configured to start from.
     fn initial_window(&self) -> u64
-        ensures { result ≡ initial (model self.now) };
+        ensures { result ≡ rules.initial (model self.now) };
 
-    ghost small: { (1 ≤ least) × (least ≤ 4) };
+    ghost small: { (1 ≤ FLOOR) × (FLOOR ≤ 4) };
 
-    ghost wide: { (x : Self) → least * (meaning (model x)).mtu ≤ (meaning (model x)).window };
+    ghost wide: { (x : Self) → FLOOR * (rules.meaning (model x)).mtu ≤ (rules.meaning (model x)).window };
 
-    ghost shows: { (x : Model) → (measured x).congestion_window ≡ (meaning x).window };
+    ghost shows: { (x : Model) → (rules.metrics x).congestion_window ≡ (rules.meaning x).window };
 
-    ghost sends: { (x : Model) (t n p : ℕ) → meaning (after_sent x t n p) ≡ told_sent (meaning x) n };
+    ghost sends: { (x : Model) (t n p : ℕ) → rules.meaning (rules.sends x t n p) ≡ told_sent (rules.meaning x) n };
 
-    ghost acks: { (x : Model) (t s n : ℕ) (b : Bool) (e : Estimate) → meaning (after_ack x t s n b e) ≡ told_acked (meaning x) n (meaning (after_ack x t s n b e)).window };
+    ghost acks: { (x : Model) (t s n : ℕ) (b : Bool) (e : Estimate) → rules.meaning (rules.acks x t s n b e) ≡ told_acked (rules.meaning x) n (rules.meaning (rules.acks x t s n b e)).window };
 
-    ghost ends: { (x : Model) (t f : ℕ) (b : Bool) (p : Maybe ℕ) → meaning (after_end x t f b p) ≡ told_end (meaning x) (meaning (after_end x t f b p)).window };
+    ghost ends: { (x : Model) (t f : ℕ) (b : Bool) (p : Maybe ℕ) → rules.meaning (rules.ends x t f b p) ≡ told_end (rules.meaning x) (rules.meaning (rules.ends x t f b p)).window };
 
-    ghost loses: { (x : Model) (t s : ℕ) (b : Bool) (n : ℕ) → meaning (after_loss x t s b n) ≡ told_lost (meaning x) n (meaning (after_loss x t s b n)).window };
+    ghost loses: { (x : Model) (t s : ℕ) (b : Bool) (n : ℕ) → rules.meaning (rules.loses x t s b n) ≡ told_lost (rules.meaning x) n (rules.meaning (rules.loses x t s b n)).window };
 
-    ghost resizes: { (x : Model) (n : ℕ) → meaning (after_mtu x n) ≡ told_mtu (meaning x) n (meaning (after_mtu x n)).window };
+    ghost resizes: { (x : Model) (n : ℕ) → rules.meaning (rules.resizes x n) ≡ told_mtu (rules.meaning x) n (rules.meaning (rules.resizes x n)).window };
 }

@@ -12,6 +12,7 @@ use Rattle.values.specs.Saturating.{sum, most}
 use Rattle.rtt.specs.Estimates.{Estimate, best}
 use Rattle.congestion.specs.Makers.{nothing}
 use Rattle.congestion.specs.Meaning.{Meaning, add_sent, add_acked, add_lost}
+use Rattle.congestion.specs.Rules.{Rules}
 use Rattle.congestion.specs.declared.metrics.ControllerMetrics.{ControllerMetrics}
 use Rattle.congestion.specs.declared.totals.Totals.{Totals}
 use Rattle.cubic.specs.Curves.{real, naught, epoch_length, target, scaled_down, converged}
@@ -31,9 +32,9 @@ abbrev pub cubic_model : Cubic → CubicModel
 cubic_model x =
     record {
       initial = x.config.initial_window.bytes;
-      mtu = x.current_mtu.value;
-      window = x.window;
-      ssthresh = x.ssthresh;
+      mtu = x.cwnd.current_mtu.value;
+      window = x.cwnd.window;
+      ssthresh = x.cwnd.ssthresh;
       start = x.recovery_start_time;
       state = x.cubic_state;
       totals = x.totals;
@@ -55,17 +56,15 @@ opened w m =
 
 -- x with other totals
 abbrev pub with_totals : CubicModel → Totals → CubicModel
-with_totals x c =
-    record { initial = x.initial; mtu = x.mtu; window = x.window; ssthresh = x.ssthresh; start = x.start; state = x.state; totals = c }
+with_totals x c = record x { totals = c }
 
 -- x with another window and state of the curves
 abbrev pub grown : CubicModel → ℕ → State → CubicModel
-grown x w s =
-    record { initial = x.initial; mtu = x.mtu; window = w; ssthresh = x.ssthresh; start = x.start; state = s; totals = x.totals }
+grown x w s = record x { window = w; state = s }
 
 -- x with another window, threshold, start of the epoch and state of the curves
 abbrev pub turned : CubicModel → ℕ → ℕ → Option ℕ → State → CubicModel
-turned x w h o s = record { initial = x.initial; mtu = x.mtu; window = w; ssthresh = h; start = o; state = s; totals = x.totals }
+turned x w h o s = record x { window = w; ssthresh = h; start = o; state = s }
 
 abbrev pub cubic_sent : CubicModel → ℕ → ℕ → ℕ → CubicModel
 cubic_sent x _ n _ = with_totals x (add_sent x.totals n)
@@ -129,13 +128,17 @@ cubic_loss x t s persistent n =
     cond (is_old x.start s) (with_totals x (add_lost x.totals n)) (recover (with_totals x (add_lost x.totals n)) t persistent)
 
 abbrev pub cubic_mtu : CubicModel → ℕ → CubicModel
-cubic_mtu x m =
+cubic_mtu x m = record x { mtu = m; window = max x.window (2 * m) }
+
+abbrev pub cubic_rules : Rules CubicModel
+cubic_rules =
     record {
-      initial = x.initial;
-      mtu = m;
-      window = max x.window (2 * m);
-      ssthresh = x.ssthresh;
-      start = x.start;
-      state = x.state;
-      totals = x.totals;
+      meaning = cubic_meaning;
+      metrics = cubic_metrics;
+      initial = λ x. x.initial;
+      sends = cubic_sent;
+      acks = cubic_ack;
+      ends = cubic_end;
+      loses = cubic_loss;
+      resizes = cubic_mtu;
     }

@@ -4,14 +4,14 @@
 use Rattle.std.specs.Prelude.{◌≡◌, ℕ, zero, suc, Some, Ok, Option, Result}
 use Rattle.std.specs.declared.convert.Infallible.{Infallible as NoPermit}
 use Rattle.refusals.specs.declared.Refusal.{Refusal}
+use Rattle.pacing.specs.Buckets.{Bucket}
 use Rattle.pacing.specs.Pacing.{opened, sent, delayed, told}
-use Rattle.pacing.specs.declared.pacer.Pacer.{Pacer}
 
 -- one datagram is asked for, and sent
-abbrev pub one_more : Pacer → Pacer
+abbrev pub one_more : Bucket → Bucket
 one_more p = sent (delayed p 100000000 1200 1200 240000 0) 1200
 
-abbrev pub after_many : ℕ → Pacer
+abbrev pub after_many : ℕ → Bucket
 after_many zero = opened 100000000 240000 1200 0
 after_many (suc n) = one_more (after_many n)
 

@@ -33,6 +33,7 @@ pub struct WorkedFigures {
 }
 
 // Every worked figure, computed. The table holds of the definitions, and the code gives its numbers.
+#[tactic(auto, using(crate::proofs::Pacers::eleventh))]
 pub fn worked_figures() -> Result<WorkedFigures, Refusal>
     ensures stand { Table }
     ensures computed { MatchResult result Computed (λ _. ⊥) }

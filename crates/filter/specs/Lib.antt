@@ -1,2 +1,3 @@
 pub mod RttOrder
+pub mod Choices
 pub mod Filter

@@ -1,9 +1,12 @@
 // The greatest of a stream of values over the last rounds, with a second and a third choice from later in the window
 // (Kathleen Nichols' algorithm).
 ghost use Rattle.std.specs.Prelude.{◌≡◌, true};
-ghost use Rattle.filter.specs.Filter.{fresh, emptied, filled, placed, aged, updated, is_replaced, Falling};
+ghost use Rattle.filter.specs.Choices.{Choices, Falling};
+ghost use Rattle.filter.specs.Filter.{fresh, emptied, filled, placed, aged, updated, is_replaced};
 
 use crate::order::TotalOrder;
+use std::alloc::AllocError;
+use std::marker::Model;
 
 #[derive(Clone, Copy)]
 pub struct MinMaxSample<T> {
@@ -12,13 +15,46 @@ pub struct MinMaxSample<T> {
     pub value: T,
 }
 
-#[derive(Clone, Copy)]
-pub struct MinMax<T> {
+pub struct MinMax<T: TotalOrder> {
     // How many rounds the filter looks back.
     window: u64,
+    // Three names, since of an array each step would begin by giving its elements these names.
     first: MinMaxSample<T>,
     second: MinMaxSample<T>,
     third: MinMaxSample<T>,
+}
+
+// No choice is greater than the one before.
+impl<T: TotalOrder> Model for MinMax<T> {
+    ghost Value = { Choices T };
+
+    ghost view = { λ m. record { window = m.window; first = m.first; second = m.second; third = m.third } };
+
+    ghost invariant = { λ m. Falling T.at_most (record { window = m.window; first = m.first; second = m.second; third = m.third }) };
+
+    ghost inverse = { λ c. record { window = c.window; first = c.first; second = c.second; third = c.third } };
+}
+
+impl<T: TotalOrder + Copy> Copy for MinMax<T> {}
+
+// Not derived, since a clone of each value need not keep the order.
+impl<T: TotalOrder + Copy> Clone for MinMax<T> {
+    ghost is_clone = { λ x y. y ≡ x };
+
+    ghost is_infallible = { λ _. Unit {0} };
+
+    fn clone(&self) -> Result<MinMax<T>, AllocError> {
+        Ok(*self)
+    }
+}
+
+// A filter that has seen nothing.
+impl<T: TotalOrder + Copy> Default for MinMax<T> {
+    ghost is_default = { λ m. m ≡ fresh T.bottom };
+
+    fn default() -> MinMax<T> {
+        MinMax::new()
+    }
 }
 
 const WINDOW: u64 = 10;
@@ -26,8 +62,7 @@ const WINDOW: u64 = 10;
 impl<T: TotalOrder + Copy> MinMax<T> {
     // A filter over ten rounds that has seen nothing.
     pub fn new() -> MinMax<T>
-        ensures value { result ≡ fresh T.bottom }
-        ensures falls { Falling T.at_most result }
+        ensures { result ≡ fresh T.bottom }
     {
         let sample = MinMaxSample {
             time: 0,
@@ -57,7 +92,8 @@ impl<T: TotalOrder + Copy> MinMax<T> {
 
     // The three choices, the best first.
     pub fn samples(&self) -> (MinMaxSample<T>, MinMaxSample<T>, MinMaxSample<T>)
-        ensures { result ≡ (self.now.first, self.now.second, self.now.third) }
+        ensures value { result ≡ (self.now.first, self.now.second, self.now.third) }
+        ensures falls { Falling T.at_most self.now }
     {
         (self.first, self.second, self.third)
     }
@@ -72,8 +108,7 @@ impl<T: TotalOrder + Copy> MinMax<T> {
 
     // Forgets every sample.
     pub fn reset(&mut self)
-        ensures state { self.new ≡ emptied T.bottom self.old }
-        ensures falls { Falling T.at_most self.new }
+        ensures { self.new ≡ emptied T.bottom self.old }
     {
         self.fill(MinMaxSample {
             time: 0,
@@ -85,6 +120,7 @@ impl<T: TotalOrder + Copy> MinMax<T> {
     fn is_replaced_by(&self, sample: &MinMaxSample<T>) -> bool
         ensures { result ≡ is_replaced T.at_most T.bottom self.now sample.now }
     {
+        // As in the crate, the least element is what was kept where nothing was, and a real one is replaced in the same way.
         let unset = self.first.value.at_most(&T::least());
         let beaten = self.first.value.at_most(&sample.value);
         let out = sample.time.saturating_sub(self.third.time) > self.window;
@@ -92,7 +128,9 @@ impl<T: TotalOrder + Copy> MinMax<T> {
     }
 
     fn place(&mut self, sample: MinMaxSample<T>)
-        ensures { self.new ≡ placed T.at_most self.old sample }
+        requires { T.at_most sample.value self.old.first.value ≡ true }
+        ensures step { self.new ≡ placed T.at_most self.old sample }
+        ensures above { T.at_most sample.value self.new.third.value ≡ true }
     {
         if self.second.value.at_most(&sample.value) {
             self.second = sample;
@@ -104,7 +142,9 @@ impl<T: TotalOrder + Copy> MinMax<T> {
 
     // As rounds go by, the later choices move up.
     fn subwin_update(&mut self, sample: MinMaxSample<T>)
-        ensures { self.new ≡ aged self.old sample }
+        requires { T.at_most sample.value self.old.third.value ≡ true }
+        ensures step { self.new ≡ aged self.old sample }
+        ensures covers { T.at_most sample.value self.new.first.value ≡ true }
     {
         let dt = sample.time.saturating_sub(self.first.time);
         if dt > self.window {
@@ -127,8 +167,7 @@ impl<T: TotalOrder + Copy> MinMax<T> {
     // Takes a measurement of a round.
     pub fn update_max(&mut self, current_round: u64, measurement: T)
         ensures step { self.new ≡ updated T.at_most T.bottom self.old current_round measurement }
-        ensures falls { Falling T.at_most self.old → Falling T.at_most self.new }
-        ensures covers { Falling T.at_most self.old → T.at_most measurement self.new.first.value ≡ true }
+        ensures covers { T.at_most measurement self.new.first.value ≡ true }
     {
         let sample = MinMaxSample {
             time: current_round,

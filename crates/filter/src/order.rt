@@ -2,7 +2,8 @@
 ghost use Rattle.std.specs.Prelude.{◌≡◌, Bool, true, false, nat_le};
 ghost use Rattle.std.proofs.Common.{rules};
 
-// An order is known by its laws alone: the filter's proof uses nothing else of it.
+// An order is known by its laws alone: the filter's proof uses nothing else of it. It is not std's `Ord`, which asks that what
+// compares as equal is `==`, while two samples with one time and two packet numbers are not; nor has std a least element.
 pub trait TotalOrder {
     ghost at_most: { Self → Self → Bool };
 

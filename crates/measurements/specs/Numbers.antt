@@ -1,6 +1,7 @@
 -- Whole numbers in decimal: one digit or more, `0` to `9`, the most significant first. Assumes nothing.
-use Rattle.std.specs.Prelude.{ℕ, ◌+◌, ◌-◌, ◌*◌, ◌^◌, cond, List, [], ◌∷◌, Ok, Err, Result, nat_lt}
-use Rattle.std.specs.Str.{all_ascii_digits}
+use Rattle.std.specs.Prelude.{ℕ, ◌+◌, ◌-◌, ◌*◌, ◌^◌, cond, List, [], ◌∷◌, length, Ok, Err, Result, ◌==◌, nat_lt}
+use Rattle.std.specs.Char.{is_ascii_digit}
+use Rattle.std.specs.List.{list_all}
 use Rattle.measurements.specs.declared.number.NumberFault.{NumberFault}
 use Rattle.measurements.specs.declared.number.NumberFault.TheVariants.{Missing, NotDecimal, TooLarge}
 
@@ -14,5 +15,6 @@ abbrev pub fitted : ℕ → Result ℕ NumberFault
 fitted n = cond (nat_lt n (2 ^ 64)) (Ok n) (Err TooLarge)
 
 abbrev pub number_in : List ℕ → Result ℕ NumberFault
-number_in [] = Err Missing
-number_in (c ∷ cs) = cond (all_ascii_digits (c ∷ cs)) (fitted (value_after 0 (c ∷ cs))) (Err NotDecimal)
+number_in bs =
+    cond (length bs == 0) (Err Missing)
+    (cond (list_all is_ascii_digit bs) (fitted (value_after 0 bs)) (Err NotDecimal))

@@ -4,6 +4,7 @@ ghost use Rattle.measurements.specs.Faults.{number_fault_text, line_fault_text};
 
 use crate::line::LineFault;
 use crate::number::NumberFault;
+use std::error::Error;
 use std::fmt;
 
 impl fmt::Display for NumberFault {
@@ -18,6 +19,8 @@ impl fmt::Display for NumberFault {
     }
 }
 
+impl Error for NumberFault {}
+
 impl fmt::Display for LineFault {
     ghost output = { λ e. Some (line_fault_text e) };
 
@@ -29,3 +32,5 @@ impl fmt::Display for LineFault {
         }
     }
 }
+
+impl Error for LineFault {}

@@ -3,5 +3,6 @@
 
 pub mod faults;
 pub mod line;
+pub mod lines;
 pub mod number;
 pub mod parts;

@@ -1,5 +1,7 @@
 // Whole numbers in decimal.
-ghost use Rattle.std.specs.Prelude.{◌≡◌};
+ghost use Rattle.std.specs.Prelude.{◌≡◌, ◌+◌, ◌-◌, ◌*◌};
+ghost use Rattle.std.specs.Char.{is_ascii_digit};
+ghost use Rattle.std.specs.List.{list_all};
 ghost use Rattle.measurements.specs.Numbers.{fitted, number_in};
 
 // What is wrong with the text of a number.
@@ -10,31 +12,37 @@ pub enum NumberFault {
     TooLarge,
 }
 
-const TOO_LARGE: u128 = 0x1_0000_0000_0000_0000;
-
-fn fit(value: u128) -> Result<u64, NumberFault>
-    ensures { result ≡ fitted value }
+fn is_decimal(text: &[u8]) -> bool
+    ensures { result ≡ list_all is_ascii_digit text.now }
 {
-    if value < TOO_LARGE {
-        Ok(value as u64)
-    } else {
-        Err(NumberFault::TooLarge)
-    }
+    text.iter().all(u8::is_ascii_digit)
 }
 
-// The number that a text of decimal digits writes. A text that has anything else in it is not decimal, however long.
+// A number with one more digit behind it.
+fn with_digit(value: u64, digit: u8) -> Result<u64, NumberFault>
+    ensures { result ≡ fitted (value * 10 + (digit - 48)) }
+{
+    value
+        .checked_mul(10)
+        .and_then(|tens| tens.checked_add(u64::from(digit.saturating_sub(b'0'))))
+        .ok_or(NumberFault::TooLarge)
+}
+
+// The number that a text of decimal digits writes. A text that has anything else in it is not decimal, however long. std's `parse`
+// takes a `+` and no bytes, and does not tell the three faults apart.
+#[tactic(auto, using(crate::proofs::Decimal::digit_fails, crate::proofs::Decimal::digit_fits, crate::proofs::Decimal::digits_end))]
 pub fn parse(text: &[u8]) -> Result<u64, NumberFault>
     ensures { result ≡ number_in text.now }
 {
     if text.is_empty() {
         return Err(NumberFault::Missing);
     }
-    let mut value: u128 = 0;
-    for digit in text {
-        if !digit.is_ascii_digit() {
-            return Err(NumberFault::NotDecimal);
-        }
-        value = (value * 10 + u128::from(*digit - b'0')).min(TOO_LARGE);
+    if !is_decimal(text) {
+        return Err(NumberFault::NotDecimal);
     }
-    fit(value)
+    let mut value = 0;
+    for digit in text {
+        value = with_digit(value, *digit)?;
+    }
+    Ok(value)
 }

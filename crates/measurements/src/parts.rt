@@ -1,51 +1,38 @@
 // Parts of a line.
-ghost use Rattle.std.specs.Prelude.{◌≡◌, ◌≤◌, length};
-ghost use Rattle.measurements.specs.Lines.{before, unreturned, is_blank_byte, all_blank};
+ghost use Rattle.std.specs.Prelude.{◌≡◌, Some, None, MatchOption, position, ◌==◌};
+ghost use Rattle.measurements.specs.Lines.{split_once, unreturned, all_blank, is_skipped};
 
-// How many bytes stand before the first `stop`: all of them where there is none.
-#[tactic(auto, using(crate::proofs::Walks::found, crate::proofs::Walks::passed, crate::proofs::Walks::missing))]
-pub fn place_of(bytes: &[u8], stop: u8) -> usize
-    ensures value { result ≡ before stop bytes.now }
-    ensures within { result ≤ length bytes.now }
+fn place_of(bytes: &[u8], stop: u8) -> Option<usize>
+    ensures { result ≡ position (λ b. b == stop) bytes.now }
 {
-    for (place, byte) in bytes.iter().enumerate() {
-        if *byte == stop {
-            return place;
-        }
-    }
-    bytes.len()
+    bytes.iter().position(|byte| *byte == stop)
 }
 
-fn is_space(byte: u8) -> bool
-    ensures { result ≡ is_blank_byte byte }
+// What stands before and behind the first `stop`, where there is one: std's `split_once` is for text, and these bytes may be none.
+pub fn split_once(bytes: &[u8], stop: u8) -> Option<(&[u8], &[u8])>
+    ensures { MatchOption result (split_once stop bytes.now ≡ None) (λ p. split_once stop bytes.now ≡ Some (p.0.now, p.1.now)) }
 {
-    byte == b' ' || byte == b'\t'
+    let place = place_of(bytes, stop)?;
+    Some((&bytes[..place], &bytes[place + 1..]))
 }
 
 // Whether a line has nothing but spaces and tabs.
-#[tactic(auto, using(crate::proofs::Walks::other, crate::proofs::Walks::blank_more, crate::proofs::Walks::blank_all))]
 pub fn is_blank(line: &[u8]) -> bool
     ensures { result ≡ all_blank line.now }
 {
-    for byte in line {
-        if !is_space(*byte) {
-            return false;
-        }
-    }
-    true
+    line.iter().all(|byte| matches!(byte, b' ' | b'\t'))
+}
+
+// Whether a line is blank or a comment.
+pub fn is_skipped(line: &[u8]) -> bool
+    ensures { result ≡ is_skipped line.now }
+{
+    is_blank(line) || line.starts_with(b"#")
 }
 
 // A line without the carriage return that some systems put before a newline.
 pub fn without_return(line: &[u8]) -> &[u8]
     ensures { result.now ≡ unreturned line.now }
 {
-    if line.is_empty() {
-        return line;
-    }
-    let last = line.len() - 1;
-    if line[last] == b'\r' {
-        &line[0..last]
-    } else {
-        line
-    }
+    line.strip_suffix(b"\r").unwrap_or(line)
 }

@@ -11,6 +11,7 @@ use Rattle.values.specs.Saturating.{sum, most}
 use Rattle.rtt.specs.Estimates.{Estimate}
 use Rattle.congestion.specs.Makers.{nothing}
 use Rattle.congestion.specs.Meaning.{Meaning, add_sent, add_acked, add_lost}
+use Rattle.congestion.specs.Rules.{Rules}
 use Rattle.congestion.specs.declared.metrics.ControllerMetrics.{ControllerMetrics}
 use Rattle.congestion.specs.declared.totals.Totals.{Totals}
 use Rattle.new_reno.specs.ByteCounting.{Counting, counted}
@@ -31,9 +32,9 @@ reno_model x =
     record {
       initial = x.config.initial_window.bytes;
       factor = x.config.loss_reduction_factor;
-      mtu = x.current_mtu.value;
-      window = x.window;
-      ssthresh = x.ssthresh;
+      mtu = x.cwnd.current_mtu.value;
+      window = x.cwnd.window;
+      ssthresh = x.cwnd.ssthresh;
       start = x.recovery_start_time;
       bytes_acked = x.bytes_acked;
       totals = x.totals;
@@ -52,45 +53,15 @@ opened w f t m =
 
 -- x with other totals
 abbrev pub with_totals : RenoModel → Totals → RenoModel
-with_totals x c =
-    record {
-      initial = x.initial;
-      factor = x.factor;
-      mtu = x.mtu;
-      window = x.window;
-      ssthresh = x.ssthresh;
-      start = x.start;
-      bytes_acked = x.bytes_acked;
-      totals = c;
-    }
+with_totals x c = record x { totals = c }
 
 -- x with another window and count of bytes
 abbrev pub grown : RenoModel → ℕ → ℕ → RenoModel
-grown x w k =
-    record {
-      initial = x.initial;
-      factor = x.factor;
-      mtu = x.mtu;
-      window = w;
-      ssthresh = x.ssthresh;
-      start = x.start;
-      bytes_acked = k;
-      totals = x.totals;
-    }
+grown x w k = record x { window = w; bytes_acked = k }
 
 -- x with another window, threshold and time of the last loss
 abbrev pub recovering : RenoModel → ℕ → ℕ → ℕ → RenoModel
-recovering x w h t =
-    record {
-      initial = x.initial;
-      factor = x.factor;
-      mtu = x.mtu;
-      window = w;
-      ssthresh = h;
-      start = t;
-      bytes_acked = x.bytes_acked;
-      totals = x.totals;
-    }
+recovering x w h t = record x { window = w; ssthresh = h; start = t }
 
 abbrev pub reno_sent : RenoModel → ℕ → ℕ → ℕ → RenoModel
 reno_sent x _ n _ = with_totals x (add_sent x.totals n)
@@ -126,16 +97,19 @@ reno_loss x t s persistent n =
     (recover (with_totals x (add_lost x.totals n)) t persistent (reduced x.window x.factor x.mtu))
 
 abbrev pub reno_mtu : RenoModel → ℕ → RenoModel
-reno_mtu x m =
+reno_mtu x m = record x { mtu = m; window = max x.window (2 * m) }
+
+abbrev pub reno_rules : Rules RenoModel
+reno_rules =
     record {
-      initial = x.initial;
-      factor = x.factor;
-      mtu = m;
-      window = max x.window (2 * m);
-      ssthresh = x.ssthresh;
-      start = x.start;
-      bytes_acked = x.bytes_acked;
-      totals = x.totals;
+      meaning = reno_meaning;
+      metrics = reno_metrics;
+      initial = λ x. x.initial;
+      sends = reno_sent;
+      acks = reno_ack;
+      ends = reno_end;
+      loses = reno_loss;
+      resizes = reno_mtu;
     }
 
 -- ---- the increase past slow start

@@ -33,6 +33,7 @@ fn opening(initial_window: u64) -> Result<NewReno, Refusal>
 }
 
 /// The worked figures, computed: the facts hold of the definitions, and the controller gives them.
+#[tactic(auto, using(crate::proofs::Worked::figures))]
 pub fn compute() -> Result<Worked, Refusal>
     ensures stand { Figures }
     ensures computed { result ≡ Accepted (record { halved = 6_600; floored = 2_400 }) }
@@ -50,6 +51,7 @@ pub fn compute() -> Result<Worked, Refusal>
 }
 
 /// The window after the first datagram of 1,200 bytes was sent and acknowledged: 12,000 and those.
+// CUBIC has the same figure of its own: over any controller `exchange` states no number, since only a known one fixes it.
 pub fn first_exchange(mtu: Mtu, rtt: &RttEstimator) -> u64
     ensures { result ≡ 13_200 }
 {

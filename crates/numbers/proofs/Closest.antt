@@ -26,7 +26,7 @@ cmp a b = go (compare a b) (leb→le a b) (nleb→lt a b) (eqb→eq a b) (λ (e 
 
 -- a multiple of U is c = w itself, or a whole U away from w * U at least, below or above
 abbrev Place : ℕ → ℕ → ℕ → Type 0
-Place w c U = (c ≡ w) ⊎ ((c < w) × (c * U + U ≤ w * U)) ⊎ ((w < c) × (w * U + U ≤ c * U))
+Place w c U = ((c ≡ w) × (c * U ≡ w * U)) ⊎ ((c < w) × (c * U + U ≤ w * U)) ⊎ ((w < c) × (w * U + U ≤ c * U))
 
 further : (a b U : ℕ) → a < b → a * U + U ≤ b * U
 further a b U h = le_trans (le_of_eq (sym (suc-mul a U))) (mul-le-mul_right U h)
@@ -35,47 +35,22 @@ place : (w c U : ℕ) → Place w c U
 place w c U =
     elim (cases_lt c w) [
       | inl l ↦ inr (inl (l, further c w U l))
-      | inr g ↦ elim (cases_lt w c) [ inl l ↦ inr (inr (l, further w c U l)) | inr h ↦ inl (omega arith) ]
+      | inr g ↦ elim (cases_lt w c) [ inl l ↦ inr (inr (l, further w c U l)) | inr h ↦ let e : c ≡ w = omega arith in inl (e, ap (λ (x : ℕ). x * U) e) ]
     ]
 
 abbrev Best : ℕ → ℕ → ℕ → ℕ → Type 0
 Best n U c q = (apart (q * U) n ≤ apart (c * U) n) × ((c ≡ q → ⊥) → apart (q * U) n ≡ apart (c * U) n → q % 2 ≡ 0)
 
-same : (n U c w : ℕ) → c ≡ w → apart (w * U) n ≡ apart (c * U) n
-same n U c w e = ap (λ (x : ℕ). apart (x * U) n) (sym e)
-
 -- n is w * U + r, and o says how r compares with the half of U
 at : (o : Ordering) (n U c w r : ℕ) → Cmp o (r * 2) U → r < U → w * U + r ≡ n → Best n U c (nearest w o)
-at Ordering.lt n U c w r h l e =
-    elim (place w c U) [
-      | inl s ↦ (le_of_eq (same n U c w s), λ ne _. absurd (ne s))
-      | inr (inl b) ↦ (let x = b.1 in omega arith, λ _ t. let x = b.1 in omega arith)
-      | inr (inr b) ↦ (let x = b.1 in omega arith, λ _ t. let x = b.1 in omega arith)
+at Ordering.lt n U c w r h l e = let p = place w c U in (grind (arith, p), λ ne t. grind (arith, p, ne))
+at Ordering.eq n U c w r h l e =
+    let p = place w c U in
+    elim (cases_lt (w % 2) 1) [
+      | inl l ↦ let q : (w + w % 2) * U ≡ w * U = ap (λ (x : ℕ). x * U) {x = w + w % 2} {y = w} (omega arith) in (grind (arith, p, q), λ _ _. omega arith)
+      | inr g ↦ let q : (w + w % 2) * U ≡ w * U + U = ap (λ (x : ℕ). x * U) {x = w + w % 2} {y = suc w} (omega arith) ∙ suc-mul w U in (grind (arith, p, q), λ _ _. omega arith)
     ]
-at Ordering.eq n U c w r h l e = (go (even w), λ _ _. omega arith)
-  where
-    even : (w : ℕ) → (w + w % 2 ≡ w) ⊎ (w + w % 2 ≡ suc w)
-    even w = elim (cases_lt (w % 2) 1) [ inl l ↦ inl (omega arith) | inr g ↦ inr (omega arith) ]
-
-    near : (q : ℕ) → (q ≡ w) ⊎ (q ≡ suc w) → apart (q * U) n ≡ r
-    near q (inl s) = ap (λ (x : ℕ). apart (x * U) n) s ∙ omega arith
-    near q (inr s) = ap (λ (x : ℕ). apart (x * U) n) s ∙ (let x = suc-mul w U in omega arith)
-
-    go : (w + w % 2 ≡ w) ⊎ (w + w % 2 ≡ suc w) → apart ((w + w % 2) * U) n ≤ apart (c * U) n
-    go s =
-        let d = near (w + w % 2) s in
-        elim (place w c U) [
-          | inl i ↦ let y = same n U c w i in omega arith
-          | inr (inl b) ↦ let x = b.1 in omega arith
-          | inr (inr b) ↦ let x = b.1 in omega arith
-        ]
-at Ordering.gt n U c w r h l e =
-    let x = suc-mul w U in
-    elim (place (suc w) c U) [
-      | inl s ↦ (le_of_eq (same n U c (suc w) s), λ ne _. absurd (ne s))
-      | inr (inl b) ↦ (let y = b.1 in omega arith, λ _ t. let y = b.1 in omega arith)
-      | inr (inr b) ↦ (let y = b.1 in omega arith, λ _ t. let y = b.1 in omega arith)
-    ]
+at Ordering.gt n U c w r h l e = let p = place (suc w) c U in let q = suc-mul w U in (grind (arith, p, q), λ ne t. grind (arith, p, q, ne))
 
 pub best : (n U c : ℕ) → 0 < U → Best n U c (closest n U)
 best n U c h = at (compare (n % U * 2) U) n U c (n / U) (n % U) (cmp (n % U * 2) U) (mod-lt n h) (div-add-mod' n U)

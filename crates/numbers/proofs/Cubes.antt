@@ -51,17 +51,21 @@ module _ (k root a : ℕ) (some : 0 < k) (way : Way k root a) where
   pub small : with_bit k root ≤ 2 ^ 21
   small = let p = power in let h = way.1 in let b = bit_is in omega arith
 
-  pub taken : third_power (with_bit k root) ≤ a → Way (k - 1) (with_bit k root) a
+  pub taken : third_power (with_bit k root) ≤ a → bitwise (k - 1) (with_bit k root) a ≡ whole_root a
   taken h =
-      let at : leb (third_power (root + 2 ^ (k - 1))) a ≡ true = le-leb _ _ (subst (λ (x : ℕ). third_power x ≤ a) bit_is h) in (
-        ap (λ (x : ℕ). bitwise (k - 1) x a) (bit_is ∙ sym (ap (λ (b : Bool). cond b (root + 2 ^ (k - 1)) root) at)) ∙ step,
-        let p = power in let w = way.1 in let b = bit_is in omega arith,
-      )
+      let at : leb (third_power (root + 2 ^ (k - 1))) a ≡ true = le-leb _ _ (subst (λ (x : ℕ). third_power x ≤ a) bit_is h) in
+      ap (λ (x : ℕ). bitwise (k - 1) x a) (bit_is ∙ sym (ap (λ (b : Bool). cond b (root + 2 ^ (k - 1)) root) at)) ∙ step
 
-  pub left_out : a < third_power (with_bit k root) → Way (k - 1) root a
+  pub taken_room : with_bit k root + 2 ^ (k - 1) ≤ 2 ^ 21
+  taken_room = let p = power in let w = way.1 in let b = bit_is in omega arith
+
+  pub left_out : a < third_power (with_bit k root) → bitwise (k - 1) root a ≡ whole_root a
   left_out h =
       let at : leb (third_power (root + 2 ^ (k - 1))) a ≡ false = lt-leb _ _ (subst (λ (x : ℕ). a < third_power x) bit_is h) in
-      (ap (λ (x : ℕ). bitwise (k - 1) x a) (sym (ap (λ (b : Bool). cond b (root + 2 ^ (k - 1)) root) at)) ∙ step, let p = power in let w = way.1 in omega arith)
+      ap (λ (x : ℕ). bitwise (k - 1) x a) (sym (ap (λ (b : Bool). cond b (root + 2 ^ (k - 1)) root) at)) ∙ step
+
+  pub left_room : root + 2 ^ (k - 1) ≤ 2 ^ 21
+  left_room = let p = power in let w = way.1 in omega arith
 
 pub ends : (root a : ℕ) → a < 2 ^ 63 → Way 0 root a → Root a root × (root ≡ whole_root a)
 unfolding whole_root bitwise

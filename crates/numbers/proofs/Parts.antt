@@ -1,15 +1,18 @@
 -- The whole part of a float of either format, from its bits. Assumes nothing.
-use Rattle.std.proofs.Common.{◌≡◌, ℕ, suc, ◌+◌, ◌-◌, ◌*◌, ◌/◌, ◌%◌, ◌^◌, ◌<◌, ◌≤◌, min, true, false, ℤ, pos, negsuc, sym, refl, ap, ◌∙◌, subst, inl, inr, le_trans, le_of_eq, lt_of_lt_of_le, lt_irrefl, mul-le-mul_right, mul_assoc, suc-mul, mul_comm, div-lt_iff_lt-mul, lt_of_mul-lt-mul_right, mul-lt-mul_of_pos_right, one-mul, le-div_iff_mul-le, zero-add, mul-one, mul_right_comm, div-mul-le_self, le_of_mul-le-mul_right, mul-div_cancel, arith, lit<, lit≤, pow_pos, pow_mono, pow-add, shl_lt}
-use native.Mathlib.Nat.{div-eq_of_lt, pow-succ'}
+use Rattle.std.proofs.Common.{◌≡◌, ℕ, suc, ◌+◌, ◌-◌, ◌*◌, ◌/◌, ◌%◌, ◌^◌, ◌<◌, ◌≤◌, min, true, false, ℤ, pos, negsuc, sym, refl, ap, ◌∙◌, subst, inl, inr, lt_of_lt_of_le, lt_irrefl, mul-le-mul_right, suc-mul, div-lt_iff_lt-mul, lt_of_mul-lt-mul_right, mul-lt-mul_of_pos_right, one-mul, le-div_iff_mul-le, zero-add, div-mul-le_self, le_of_mul-le-mul_right, mul-div_cancel, arith, lit<, lit≤, pow_pos, pow-add, shl_lt}
+use native.Mathlib.Nat.{div-eq_of_lt}
 use lib.Arith.{digits_div, digits_mod}
+use lib.Count.{count_trailing_zeros}
 use lib.Pow.{pow-lt}
-use lib.Ieee.{Float, nan, inf, fin, Format, binary32, binary64, prec, low, hid, up, down, size, fits, lt, eq, le, to_bits, to_unsigned}
+use lib.Ieee.{Float, nan, inf, fin, Format, binary32, binary64, prec, low, hid, up, down, size, fits, lt, eq, le, to_bits, of_bits, of_fields, odd, to_unsigned}
 use lib.Ieee.Digits.{size-lt, size-le, size_reaches}
 use lib.Ieee.Fits.{down_pos, two}
 use lib.Ieee.Nearest.{div_same}
 use Rattle.std.proofs.lemmas.Bool.{both_ways, cases_lt}
 use Rattle.numbers.specs.Whole.{WholePart}
-use Rattle.numbers.proofs.Bounds.{power, at_least, under, negative, fits_parts}
+use Rattle.std.specs.Float.{two_to}
+use Rattle.numbers.proofs.Rounding.{size_gt, twice}
+use Rattle.numbers.proofs.Bounds.{at_least, under, negative, fits_parts}
 
 -- ---- the account of a cast is the rule
 whole_part : (x : Float) → WholePart x (to_unsigned 64 x)
@@ -30,11 +33,11 @@ whole_part (fin false m e) =
     )
 
 pub whole_of : (x : Float) (r : ℕ) → r ≡ to_unsigned 64 x → WholePart x r
-whole_of x r e = subst (WholePart x) (sym e) (whole_part x)
+whole_of x r is = subst (WholePart x) (sym is) (whole_part x)
 
 -- ---- outside the range
-pub below_one : (x : Float) → le (power 0) x ≡ false → to_unsigned 64 x ≡ 0
-unfolding le lt eq to_unsigned
+pub below_one : (x : Float) → le (of_bits binary64 0x3ff0_0000_0000_0000) x ≡ false → 0 ≡ to_unsigned 64 x
+unfolding le lt eq to_unsigned of_bits of_fields odd count_trailing_zeros
 below_one nan h = refl
 below_one (inf true) h = refl
 below_one (inf false) h = absurd (both_ways true h refl)
@@ -42,8 +45,8 @@ below_one (fin true m e) h = refl
 below_one (fin false m e) h =
     let none : m * up e / down e ≡ 0 = div-eq_of_lt (let l = under 0 m e h in subst (λ (x : ℕ). m * up e < x) (one-mul (down e)) l) in omega arith
 
-pub past_range : (x : Float) → le (power 64) x ≡ true → to_unsigned 64 x ≡ 2 ^ 64 - 1
-unfolding le lt eq to_unsigned
+pub past_range : (x : Float) → le (of_bits binary64 0x43f0_0000_0000_0000) x ≡ true → 2 ^ 64 - 1 ≡ to_unsigned 64 x
+unfolding le lt eq to_unsigned of_bits of_fields odd count_trailing_zeros
 past_range nan h = absurd (both_ways false refl h)
 past_range (inf true) h = absurd (both_ways false refl h)
 past_range (inf false) h = refl
@@ -67,7 +70,7 @@ sized binary64 = (lit< tt, lit≤ tt)
 -- N is a float in units of the format's smallest value, from 1 on and below 2^64: m * 2^j, with no more digits in m than the format has
 module _ (f : Format) (m j N : ℕ) (few : m < 2 ^ prec f) (is : N ≡ m * 2 ^ j) (from : 2 ^ low f ≤ N) (below : N < 2 ^ (64 + low f)) where
   size_from : low f < size N
-  size_from = elim (cases_lt (low f) (size N)) [ inl l ↦ l | inr g ↦ absurd (lt_irrefl N (lt_of_lt_of_le (size-lt N) (le_trans (pow_mono g) from))) ]
+  size_from = size_gt N (low f) from
 
   size_to : size N ≤ 64 + low f
   size_to = size-le N (64 + low f) below
@@ -83,16 +86,15 @@ module _ (f : Format) (m j N : ℕ) (few : m < 2 ^ prec f) (is : N ≡ m * 2 ^ j
       let p = prec f in
       let D = m * 2 ^ (j - k) in
       let back : j - k + k ≡ j = let h = dropped_le in omega arith in
-      let whole : D * 2 ^ k ≡ N = mul_assoc m (2 ^ (j - k)) (2 ^ k) ∙ ap (λ (x : ℕ). m * x) (sym (pow-add 2 (j - k) k) ∙ ap (λ (x : ℕ). 2 ^ x) back) ∙ sym is in
+      let whole : D * 2 ^ k ≡ N = omega (arith, ap (λ (x : ℕ). m * x) (pow-add 2 (j - k) k), ap (λ (x : ℕ). m * 2 ^ x) back) in
       let some = two f in
       let long = (sized f).1 in
       let far = size_from in
       let top : p - 1 + k < size N = omega arith in
       let all : p + k ≡ size N = omega arith in
-      let lo : hid f ≤ D = le_of_mul-le-mul_right (le_trans (le_of_eq (sym (pow-add 2 (p - 1) k))) (le_trans (size_reaches N (p - 1 + k) top) (le_of_eq (sym whole)))) (pow_pos k) in
-      let hi : D < 2 ^ p =
-      lt_of_mul-lt-mul_right (2 ^ k) (subst (λ (x : ℕ). x < 2 ^ p * 2 ^ k) (sym whole) (subst (λ (x : ℕ). N < x) (ap (λ (x : ℕ). 2 ^ x) (sym all) ∙ pow-add 2 p k) (size-lt N))) in
-      let double : 2 ^ p ≡ 2 * hid f = ap (λ (x : ℕ). 2 ^ x) (let s : p ≡ suc (p - 1) = omega arith in s) ∙ pow-succ' 2 (p - 1) in
+      let lo : hid f ≤ D = le_of_mul-le-mul_right {k = 2 ^ k} (omega (arith, pow-add 2 (p - 1) k, size_reaches N (p - 1 + k) top)) (pow_pos k) in
+      let hi : D < 2 ^ p = lt_of_mul-lt-mul_right (2 ^ k) (omega (arith, size-lt N, pow-add 2 p k, ap (λ (x : ℕ). 2 ^ x) all)) in
+      let double = twice f in
       let again : D - hid f + hid f ≡ D = omega arith in
       (D - hid f, sym whole ∙ ap (λ (x : ℕ). x * 2 ^ k) (sym again), omega arith)
 
@@ -111,12 +113,10 @@ module _ (f : Format) (m j N : ℕ) (few : m < 2 ^ prec f) (is : N ≡ m * 2 ^ j
       let far = size_from in
       let near = size_to in
       let shift : 64 - p + l ≡ k + (l + 65 - p - suc k) = omega arith in
-      let cross : D * 2 ^ (64 - p) * 2 ^ l ≡ N * 2 ^ (l + 65 - p - suc k) =
-      mul_assoc D (2 ^ (64 - p)) (2 ^ l)
-      ∙ ap (λ (x : ℕ). D * x) (sym (pow-add 2 (64 - p) l) ∙ ap (λ (x : ℕ). 2 ^ x) shift ∙ pow-add 2 k (l + 65 - p - suc k))
-      ∙ sym (mul_assoc D (2 ^ k) (2 ^ (l + 65 - p - suc k)))
-      ∙ ap (λ (x : ℕ). x * 2 ^ (l + 65 - p - suc k)) (sym significand.1) in
-      let cut : D * 2 ^ (64 - p) / 2 ^ (l + 65 - p - suc k) ≡ N / 2 ^ l = div_same (D * 2 ^ (64 - p)) (2 ^ (l + 65 - p - suc k)) N (2 ^ l) (pow_pos (l + 65 - p - suc k)) (pow_pos l) cross in
+      let r = l + 65 - p - suc k in
+      let cross : D * 2 ^ (64 - p) * 2 ^ l ≡ N * 2 ^ r =
+      omega (arith, ap (λ (x : ℕ). D * x) (pow-add 2 (64 - p) l), ap (λ (x : ℕ). D * 2 ^ x) shift, ap (λ (x : ℕ). D * x) (pow-add 2 k r), ap (λ (x : ℕ). x * 2 ^ r) significand.1) in
+      let cut : D * 2 ^ (64 - p) / 2 ^ r ≡ N / 2 ^ l = div_same (D * 2 ^ (64 - p)) (2 ^ r) N (2 ^ l) (pow_pos r) (pow_pos l) cross in
       let Read : ℕ → ℕ → Type 0 = λ e t. (l + 1 - p < e) × (e ≤ l + 65 - p) × ((t + hid f) * 2 ^ (64 - p) / 2 ^ (l + 65 - p - e) ≡ N / 2 ^ l) in
       let at : Read (suc k) d = (omega arith, omega arith, cut) in
       subst (λ (b : ℕ). Reads p l b (N / 2 ^ l)) (sym b-is)
@@ -124,15 +124,13 @@ module _ (f : Format) (m j N : ℕ) (few : m < 2 ^ prec f) (is : N ≡ m * 2 ^ j
 
 -- a float of the format in those units
 in_units : (f : Format) (m : ℕ) (e : ℤ) → down e ≤ 2 ^ low f → (j : ℕ) × (m * up e * 2 ^ low f ≡ m * 2 ^ j * down e)
-in_units f m (pos a) h = (a + low f, mul_assoc m (2 ^ a) (2 ^ low f) ∙ ap (λ (x : ℕ). m * x) (sym (pow-add 2 a (low f))) ∙ sym (mul-one (m * 2 ^ (a + low f))))
+in_units f m (pos a) h = (a + low f, omega (arith, ap (λ (x : ℕ). m * x) (pow-add 2 a (low f))))
 in_units f m (negsuc i) h =
     let short : suc i ≤ low f = elim (cases_lt (low f) (suc i)) [ inl l ↦ absurd (lt_irrefl (2 ^ low f) (lt_of_lt_of_le (pow-lt l) h)) | inr g ↦ g ] in
-    let back : low f - suc i + suc i ≡ low f = omega arith in (
-      low f - suc i,
-      ap (λ (x : ℕ). x * 2 ^ low f) (mul-one m) ∙ ap (λ (x : ℕ). m * 2 ^ x) (sym back) ∙ ap (λ (x : ℕ). m * x) (pow-add 2 (low f - suc i) (suc i)) ∙ sym (mul_assoc m (2 ^ (low f - suc i)) (2 ^ suc i)),
-    )
+    let back : low f - suc i + suc i ≡ low f = omega arith in
+    (low f - suc i, omega (arith, ap (λ (x : ℕ). m * 2 ^ x) back, ap (λ (x : ℕ). m * x) (pow-add 2 (low f - suc i) (suc i))))
 
-pub bits_read : (f : Format) (x : Float) → fits f x ≡ true → le (power 0) x ≡ true → le (power 64) x ≡ false → Reads (prec f) (low f) (to_bits f x) (to_unsigned 64 x)
+bits_read : (f : Format) (x : Float) → fits f x ≡ true → le (two_to 0) x ≡ true → le (two_to 64) x ≡ false → Reads (prec f) (low f) (to_bits f x) (to_unsigned 64 x)
 unfolding le lt eq to_bits to_unsigned
 bits_read f nan h one top = absurd (both_ways false refl one)
 bits_read f (inf true) h one top = absurd (both_ways false refl one)
@@ -144,15 +142,17 @@ bits_read f (fin false m e) h one top =
     let N = m * up e * 2 ^ low f / down e in
     let N-is : N ≡ m * 2 ^ unit.0 = ap (λ (x : ℕ). x / down e) unit.1 ∙ mul-div_cancel (m * 2 ^ unit.0) (down_pos e) in
     let exact : N * down e ≡ m * up e * 2 ^ low f = ap (λ (x : ℕ). x * down e) N-is ∙ sym unit.1 in
-    let from : 2 ^ low f ≤ N =
-    (le-div_iff_mul-le (down_pos e)).1 (le_trans (le_of_eq (mul_comm (2 ^ low f) (down e))) (mul-le-mul_right (2 ^ low f) (le_trans (le_of_eq (sym (one-mul (down e)))) (at_least 0 m e one)))) in
-    let below : N < 2 ^ (64 + low f) =
-    (div-lt_iff_lt-mul (down_pos e)).1
-    (lt_of_lt_of_le (mul-lt-mul_of_pos_right (under 64 m e top) (pow_pos (low f)))
-    (le_of_eq (mul_right_comm (2 ^ 64) (down e) (2 ^ low f) ∙ ap (λ (x : ℕ). x * down e) (sym (pow-add 2 64 (low f)))))) in
+    let from : 2 ^ low f ≤ N = (le-div_iff_mul-le (down_pos e)).1 (omega (arith, mul-le-mul_right (2 ^ low f) (at_least 0 m e one))) in
+    let below : N < 2 ^ (64 + low f) = (div-lt_iff_lt-mul (down_pos e)).1 (omega (arith, mul-lt-mul_of_pos_right (under 64 m e top) (pow_pos (low f)), ap (λ (x : ℕ). x * down e) (pow-add 2 64 (low f)))) in
     let cut : N / 2 ^ low f ≡ m * up e / down e = div_same N (2 ^ low f) (m * up e) (down e) (pow_pos (low f)) (down_pos e) exact in
     let small : m * up e / down e < 2 ^ 64 = (div-lt_iff_lt-mul (down_pos e)).1 (under 64 m e top) in
     let whole : N / 2 ^ low f ≡ min (m * up e / down e) (2 ^ 64 - 1) = cut ∙ omega arith in
     let k = size N - prec f in
     subst (λ (b : ℕ). Reads (prec f) (low f) b (min (m * up e / down e) (2 ^ 64 - 1))) (ap (λ (x : ℕ). x + N / 2 ^ k) (sym (zero-add (k * hid f))))
     (subst (Reads (prec f) (low f) (k * hid f + N / 2 ^ k)) whole (reads f m unit.0 N parts.0 N-is from below))
+
+-- of an f64
+pub f64_read : (x : Float) → fits binary64 x ≡ true → le (of_bits binary64 0x3ff0_0000_0000_0000) x ≡ true → le (of_bits binary64 0x43f0_0000_0000_0000) x ≡ false
+    → Reads 53 1074 (to_bits binary64 x) (to_unsigned 64 x)
+unfolding of_bits of_fields odd count_trailing_zeros
+f64_read x h one top = bits_read binary64 x h one top

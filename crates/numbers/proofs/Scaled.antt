@@ -1,5 +1,5 @@
 -- A float above 0 and below 2^21, times 2^42 and cut to a whole number, and a whole number over 2^14: nothing is lost. Assumes nothing.
-use Rattle.std.proofs.Common.{◌≡◌, ℕ, zero, suc, ◌+◌, ◌-◌, ◌*◌, ◌/◌, ◌^◌, ◌<◌, ◌≤◌, min, Bool, true, false, cond, ℤ, pos, negsuc, sym, refl, ap, ◌∙◌, subst, inl, inr, zero-le, le_trans, le_of_eq, lt_of_lt_of_le, lt_of_le_of_lt, le_of_lt, lt_irrefl, mul-le-mul_right, mul_assoc, mul_comm, div-lt_iff_lt-mul, mul-le-mul, mul-lt-mul_of_pos_right, mul-pos, zero-mul, mul-one, mul_right_comm, div-mul-le_self, arith, lit<, lit≤, pow_pos, pow_mono, pow-add}
+use Rattle.std.proofs.Common.{◌≡◌, ℕ, zero, suc, ◌+◌, ◌-◌, ◌*◌, ◌/◌, ◌^◌, ◌<◌, ◌≤◌, min, Bool, true, false, cond, ℤ, pos, negsuc, sym, refl, ap, ◌∙◌, subst, inl, inr, zero-le, le_trans, le_of_eq, lt_of_lt_of_le, lt_of_le_of_lt, le_of_lt, lt_irrefl, mul-le-mul_right, mul_assoc, div-lt_iff_lt-mul, mul-le-mul, mul-pos, zero-mul, mul-one, div-mul-le_self, arith, lit<, lit≤, pow_pos, pow_mono, pow-add}
 use lib.Count.{count_trailing_zeros}
 use lib.Pow.{pow-lt}
 use lib.Ieee.{Float, nan, inf, fin, binary64, up, down, unlike, round, mul, div, lt, eq, le, fits, of_int, to_unsigned, of_bits, of_fields, odd}
@@ -10,15 +10,16 @@ use lib.Ieee.Back.{round_whole}
 use lib.Ieee.Scale.{round_same}
 use lib.Ieee.Positive.{mul_at, positive_of_value}
 use Rattle.std.proofs.lemmas.Bool.{both_ways, ltb-true, ltb-false, cases_lt}
-use Rattle.numbers.proofs.Bounds.{power, at_least, under, digits_few, last_place}
+use Rattle.std.specs.Float.{two_to}
+use Rattle.numbers.proofs.Bounds.{at_least, under, digits_few, last_place}
 use Rattle.numbers.specs.Root.{zero64, two7, two21, two14, two42, third_power, CubeRoot}
 
 -- ---- the constants
-two42_is : two42 ≡ power 42
+two42_is : two42 ≡ two_to 42
 unfolding of_bits of_fields odd count_trailing_zeros
 two42_is = refl
 
-two21_is : two21 ≡ power 21
+two21_is : two21 ≡ two_to 21
 unfolding of_bits of_fields odd count_trailing_zeros
 two21_is = refl
 
@@ -26,7 +27,7 @@ zero64_is : zero64 ≡ fin false 0 (pos 0)
 unfolding of_bits of_fields odd count_trailing_zeros
 zero64_is = refl
 
-two14_is : two14 ≡ power 14
+two14_is : two14 ≡ two_to 14
 unfolding of_bits of_fields odd count_trailing_zeros
 two14_is = refl
 
@@ -41,21 +42,18 @@ cut (fin t m e) num den d v h =
 
 exact_at : (m : ℕ) (e : ℤ) → m < 2 ^ 53 → down e ≤ 2 ^ 1074 → m * up e < 2 ^ 21 * down e → HasValue (round binary64 false (m * up e * 2 ^ 42) (down e * 1)) false (m * up e * 2 ^ 42) (down e * 1)
 exact_at m (pos i) small near below =
-    let whole : m * 2 ^ i * 2 ^ 42 * 2 ^ 1074 ≡ m * 2 ^ (i + 1116) =
-    mul_assoc (m * 2 ^ i) (2 ^ 42) (2 ^ 1074) ∙ mul_assoc m (2 ^ i) (2 ^ 1116) ∙ ap (λ (x : ℕ). m * x) (sym (pow-add 2 i 1116)) in
-    let room : m * 2 ^ i * 2 ^ 1116 ≤ 2 ^ 21 * 1 * 2 ^ 1116 = mul-le-mul_right (2 ^ 1116) (le_of_lt below) in
-    let split : m * 2 ^ (i + 1116) ≡ m * 2 ^ i * 2 ^ 1116 = ap (λ (x : ℕ). m * x) (pow-add 2 i 1116) ∙ sym (mul_assoc m (2 ^ i) (2 ^ 1116)) in
-    round_exact binary64 false (m * 2 ^ i * 2 ^ 42) (1 * 1) m (i + 1116) (lit< tt) small
-    (lt_of_le_of_lt (le_trans (le_of_eq split) room) (lit< tt))
-    (whole ∙ sym (mul-one (m * 2 ^ (i + 1116))))
+    let split : m * 2 ^ (i + 1116) ≡ m * 2 ^ i * 2 ^ 1116 = omega (arith, ap (λ (x : ℕ). m * x) (pow-add 2 i 1116)) in
+    let few : m * 2 ^ i ≤ 2 ^ 21 = omega arith in
+    let room : m * 2 ^ i * 2 ^ 1116 ≤ 2 ^ 21 * 2 ^ 1116 = mul-le-mul_right (2 ^ 1116) few in
+    round_exact binary64 false (m * 2 ^ i * 2 ^ 42) (1 * 1) m (i + 1116) (lit< tt) small (lt_of_le_of_lt (le_trans (le_of_eq split) room) (lit< tt)) (omega arith)
 exact_at m (negsuc i) small near below =
     let short : suc i ≤ 1074 = elim (cases_lt 1074 (suc i)) [ inl l ↦ absurd (lt_irrefl (2 ^ 1074) (lt_of_lt_of_le (pow-lt l) near)) | inr g ↦ g ] in
     let j = 1116 - suc i in
     let back : j + suc i ≡ 1116 = omega arith in
-    let power : 2 ^ 1116 ≡ 2 ^ j * 2 ^ suc i = ap (λ (x : ℕ). 2 ^ x) (sym back) ∙ pow-add 2 j (suc i) in
+    let power : m * 2 ^ 1116 ≡ m * (2 ^ j * 2 ^ suc i) = ap (λ (x : ℕ). m * 2 ^ x) (sym back) ∙ ap (λ (x : ℕ). m * x) (pow-add 2 j (suc i)) in
     round_exact binary64 false (m * 1 * 2 ^ 42) (2 ^ suc i * 1) m j (mul-pos (pow_pos (suc i)) (lit< tt)) small
     (lt_of_le_of_lt (mul-le-mul (le_of_lt small) (pow_mono {i = j} {j = 1116} (omega arith))) (lit< tt))
-    (mul_assoc (m * 1) (2 ^ 42) (2 ^ 1074) ∙ ap (λ (x : ℕ). x * 2 ^ 1116) (mul-one m) ∙ ap (λ (x : ℕ). m * x) power ∙ sym (mul_assoc m (2 ^ j) (2 ^ suc i)) ∙ ap (λ (x : ℕ). m * 2 ^ j * x) (sym (mul-one (2 ^ suc i))))
+    (omega arith)
 
 -- ---- w is the whole part of a * 2^42, for an a above 0 and below 2^21
 abbrev pub Cut : Float → ℕ → Type 0
@@ -67,10 +65,10 @@ Cut (fin false m e) w = (m * up e < 2 ^ 21 * down e) × (w * down e ≤ m * up e
 abbrev pub Scaled : Float → ℕ → Type 0
 Scaled a w = (w < 2 ^ 63) × Cut a w
 
-positive_cut : (m : ℕ) (e : ℤ) → 0 < m → m < 2 ^ 53 → down e ≤ 2 ^ 1074 → m * up e < 2 ^ 21 * down e → Scaled (fin false m e) (to_unsigned 64 (mul binary64 (fin false m e) (power 42)))
+positive_cut : (m : ℕ) (e : ℤ) → 0 < m → m < 2 ^ 53 → down e ≤ 2 ^ 1074 → m * up e < 2 ^ 21 * down e → Scaled (fin false m e) (to_unsigned 64 (mul binary64 (fin false m e) (two_to 42)))
 positive_cut m e mp small near below =
     let a = fin false m e in
-    let s = power 42 in
+    let s = two_to 42 in
     let num = m * up e * 2 ^ 42 in
     let den = down e in
     let va : HasValue a false (m * up e) (down e) = (refl, refl) in
@@ -79,13 +77,13 @@ positive_cut m e mp small near below =
     mul_at binary64 a s (m * up e) den (2 ^ 42) 1 (positive_of_value a (m * up e) den va (mul-pos mp (up_pos e))) (positive_of_value s (2 ^ 42) 1 vs (lit< tt)) (down_pos e) (lit< tt) va vs in
     let v : HasValue (mul binary64 a s) false num den =
     subst (λ (d : ℕ). HasValue (mul binary64 a s) false num d) (mul-one den) (subst (λ (x : Float). HasValue x false num (den * 1)) (sym is) (exact_at m e small near below)) in
-    let under : num < 2 ^ 63 * den = lt_of_lt_of_le (mul-lt-mul_of_pos_right below (lit< tt)) (le_of_eq (mul_right_comm (2 ^ 21) den (2 ^ 42))) in
+    let under : num < 2 ^ 63 * den = omega arith in
     let q : num / den < 2 ^ 63 = (div-lt_iff_lt-mul (down_pos e)).1 under in
     let w : to_unsigned 64 (mul binary64 a s) ≡ num / den = cut (mul binary64 a s) num den (down_pos e) v q in
     let next : num / den < num / den + 1 = omega arith in
     subst (Scaled a) (sym w) (q, (below, div-mul-le_self num den, (div-lt_iff_lt-mul (down_pos e)).0 next))
 
-plain : (a : Float) → fits binary64 a ≡ true → lt (fin false 0 (pos 0)) a ≡ true → le (power 21) a ≡ false → Scaled a (to_unsigned 64 (mul binary64 a (power 42)))
+plain : (a : Float) → fits binary64 a ≡ true → lt (fin false 0 (pos 0)) a ≡ true → le (two_to 21) a ≡ false → Scaled a (to_unsigned 64 (mul binary64 a (two_to 42)))
 unfolding lt le eq
 plain nan f z l = absurd (both_ways false refl z)
 plain (inf true) f z l = absurd (both_ways false refl z)
@@ -100,12 +98,12 @@ scaled a f z l =
     (plain a f (subst (λ (x : Float). lt x a ≡ true) zero64_is z) (subst (λ (x : Float). le x a ≡ false) two21_is l))
 
 -- ---- n / 2^14
-over_steps : (n : ℕ) (x : Float) → n < 2 ^ 21 → HasValue x false n 1 → HasValue (div binary64 x (power 14)) false n (2 ^ 14)
+over_steps : (n : ℕ) (x : Float) → n < 2 ^ 21 → HasValue x false n 1 → HasValue (div binary64 x (two_to 14)) false n (2 ^ 14)
 unfolding div
 over_steps n nan l v = absurd v
 over_steps n (inf s) l v = absurd v
 over_steps n (fin s m e) l v =
-    let same : m * up e * 1 * 2 ^ 14 ≡ n * (1 * 2 ^ 14 * down e) = ap (λ (x : ℕ). x * 2 ^ 14) v.1 ∙ mul_assoc n (down e) (2 ^ 14) ∙ ap (λ (x : ℕ). n * x) (mul_comm (down e) (2 ^ 14)) in
+    let same : m * up e * 1 * 2 ^ 14 ≡ n * (1 * 2 ^ 14 * down e) = omega (arith, v.1) in
     let is : round binary64 (unlike s false) (m * up e * 1) (1 * 2 ^ 14 * down e) ≡ round binary64 false n (2 ^ 14) =
     ap (λ (b : Bool). round binary64 (unlike b false) (m * up e * 1) (1 * 2 ^ 14 * down e)) v.0
     ∙ round_same binary64 false (m * up e * 1) (1 * 2 ^ 14 * down e) n (2 ^ 14) (mul-pos (lit< tt) (down_pos e)) (lit< tt) same in
@@ -141,7 +139,7 @@ below_all (fin false m e) r h z =
 pub no_root : (a r : Float) → r ≡ zero64 → lt zero64 a ≡ false → CubeRoot a r
 no_root a r h z = below_all a r h (subst (λ (x : Float). lt x a ≡ false) zero64_is z)
 
-past_limit : (a r : Float) → r ≡ two7 → lt (fin false 0 (pos 0)) a ≡ true → le (power 21) a ≡ true → CubeRoot a r
+past_limit : (a r : Float) → r ≡ two7 → lt (fin false 0 (pos 0)) a ≡ true → le (two_to 21) a ≡ true → CubeRoot a r
 unfolding lt le eq
 past_limit nan r h z l = absurd (both_ways false refl z)
 past_limit (inf true) r h z l = absurd (both_ways false refl z)

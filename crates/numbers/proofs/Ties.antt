@@ -1,20 +1,20 @@
 -- The float that a whole number is rounded to is the nearest, and at a tie its last digit is even. Assumes nothing.
-use Rattle.std.proofs.Common.{◌≡◌, ℕ, suc, ◌+◌, ◌-◌, ◌*◌, ◌%◌, ◌^◌, ◌<◌, ◌≤◌, Bool, true, false, not, ◌||◌, T, eqb, ◌⊎◌, ℤ, pos, negsuc, sym, refl, ap, ◌∙◌, subst, inl, inr, le_trans, le_of_eq, le_refl, lt_of_lt_of_le, lt_of_le_of_lt, le_of_lt, lt_irrefl, mul-le-mul_right, mul_assoc, mul_comm, add-mul, eq-or-lt_of_le, mul-pos, pow-suc, zero-mul, mul-one, mul_right_comm, arith, pow_pos, pow_mono, pow-add, shl_lt}
-use mathlib.Core.Bool.{beq}
-use native.Mathlib.Nat.{eq_of_mul-eq-mul_right, mul-mod_left}
+use Rattle.std.proofs.Common.{◌≡◌, ℕ, suc, ◌+◌, ◌-◌, ◌*◌, ◌%◌, ◌^◌, ◌<◌, ◌≤◌, Bool, true, false, T, ◌⊎◌, ℤ, pos, negsuc, sym, refl, ap, ◌∙◌, subst, inl, inr, le_trans, le_of_eq, le_refl, lt_of_lt_of_le, le_of_lt, mul-le-mul_right, add-mul, eq-or-lt_of_le, mul-pos, pow-suc, zero-mul, mul-one, arith, pow_pos, pow_mono, pow-add, shl_lt}
+use native.Mathlib.Nat.{eq_of_mul-eq-mul_right}
 use lib.Count.{count_leading_zeros}
 use lib.Pow.{pow-lt}
-use lib.Ieee.{Float, nan, inf, fin, Format, prec, top, up, down, round, of_int, of_bits, to_bits, nan_bits, is_nan, fits, eq, level}
-use lib.Ieee.Bits.{of_bits-to_bits, to_bits-lt, nan_bits_is, is_true}
+use lib.Ieee.{Float, nan, inf, fin, Format, binary32, binary64, prec, up, down, round, of_int, fits, eq, level}
+use lib.Ieee.Bits.{is_true}
 use lib.Ieee.Exact.{HasValue}
-use lib.Ieee.Fits.{of_int-fits, down_pos, two}
+use lib.Ieee.Fits.{of_int-fits, down_pos}
 use lib.Ieee.Nearest.{closest}
 use lib.Ieee.Back.{round_whole}
-use Rattle.std.proofs.lemmas.Bool.{both_ways, cases_lt, and_from, eq-eqb}
+use Rattle.std.proofs.lemmas.Bool.{both_ways, cases_lt}
+use Rattle.std.proofs.lemmas.Bool.Decides.{nat_tests}
 use Rattle.numbers.specs.Nearest.{apart, distance, NoNearer, AsNear, EvenLast, Nearest}
 use Rattle.numbers.proofs.Bounds.{digits_few}
 use Rattle.numbers.proofs.Closest.{best, apart_scaled, closest_le}
-use Rattle.numbers.proofs.Rounding.{some_digits, round_value, closest_from}
+use Rattle.numbers.proofs.Rounding.{some_digits, twice, round_value, closest_from}
 use Rattle.numbers.proofs.Leading.{least, most, all_digits, some_past}
 
 -- below B in size, or negative, a float is further from n than B is
@@ -40,8 +40,7 @@ grid f n k K h false m (negsuc a) l =
     let some = some_digits f in
     let far : 2 ^ p ≤ 2 ^ (p - 1 + k) = pow_mono (let s : p ≤ p - 1 + k = omega arith in s) in
     let one : 1 * 2 ^ (p - 1 + k) ≤ 2 ^ suc a * 2 ^ (p - 1 + k) = mul-le-mul_right (2 ^ (p - 1 + k)) (pow_pos (suc a)) in
-    inr (below n (2 ^ (p - 1 + k)) (m * 1) (2 ^ suc a) h
-    (let c : 2 ^ suc a * 2 ^ (p - 1 + k) ≡ 2 ^ (p - 1 + k) * 2 ^ suc a = mul_comm (2 ^ suc a) (2 ^ (p - 1 + k)) in omega arith))
+    inr (below n (2 ^ (p - 1 + k)) (m * 1) (2 ^ suc a) h (omega arith))
 grid f n k K h false m (pos a) l =
     let p = prec f in
     let some = some_digits f in
@@ -51,22 +50,16 @@ grid f n k K h false m (pos a) l =
           inr (below n (2 ^ (p - 1 + k)) (m * 2 ^ a) 1 h (omega arith))
       | inr g ↦
           let back : a - k + k ≡ a = omega arith in
-          inl (m * 2 ^ (a - k), refl, ap (λ (x : ℕ). m * 2 ^ x) (sym back) ∙ ap (λ (x : ℕ). m * x) (pow-add 2 (a - k) k) ∙ sym (mul_assoc m (2 ^ (a - k)) (2 ^ k)) ∙ sym (mul-one (m * 2 ^ (a - k) * 2 ^ k)))
+          inl (m * 2 ^ (a - k), refl, omega (arith, ap (λ (x : ℕ). m * 2 ^ x) back, ap (λ (x : ℕ). m * x) (pow-add 2 (a - k) k)))
     ]
 
 -- ---- two floats of one size are equal
 
 level_true : (s t : Bool) (a b : ℕ) → a ≡ b → (s ≡ t) ⊎ (a ≡ 0) → level s a t b ≡ true
-level_true s t a b h (inl e) = and_from (eqb a b) _ (eq-eqb a b h) (subst (λ (u : Bool). (beq s u || eqb a 0) ≡ true) e (own s))
-  where
-    own : (s : Bool) → (beq s s || eqb a 0) ≡ true
-    own true = refl
-    own false = refl
-level_true s t a b h (inr z) = and_from (eqb a b) _ (eq-eqb a b h) (ap (λ (x : Bool). beq s t || x) (eq-eqb a 0 z) ∙ ends (beq s t))
-  where
-    ends : (b : Bool) → (b || true) ≡ true
-    ends true = refl
-    ends false = refl
+level_true true true a b h e = grind (arith, nat_tests)
+level_true true false a b h e = grind (arith, nat_tests)
+level_true false true a b h e = grind (arith, nat_tests)
+level_true false false a b h e = grind (arith, nat_tests)
 
 -- V is what n was rounded to. A float of the format is no nearer, and where it is as near and of another size, V's last digit is even
 abbrev Holds : Format → ℕ → ℕ → Type 0 → Type 0
@@ -95,18 +88,15 @@ settled f n V (fin s m e) h v w =
     go : (y : Float) → fits f y ≡ true → NoNearer n (fin s m e) y
     go nan g = tt
     go (inf t) g = tt
-    go (fin t k d) g =
-        subst (λ (x : ℕ). x * down d ≤ distance n t k d * down e) (sym mine)
-        (le_trans (le_of_eq (mul_right_comm (apart V n) (down e) (down d))) (mul-le-mul_right (down e) (w t k d (digits_few f t k d g)).0))
+    go (fin t k d) g = omega (arith, ap (λ (x : ℕ). x * down d) mine, mul-le-mul_right (down e) (w t k d (digits_few f t k d g)).0)
 
     even : (y : Float) → fits f y ≡ true → eq (fin s m e) y ≡ false → AsNear n (fin s m e) y → EvenLast f (fin s m e)
     even nan g other a = absurd a
     even (inf t) g other a = absurd a
     even (fin t k d) g other a =
         let equal : apart V n * down d ≡ distance n t k d =
-        eq_of_mul-eq-mul_right (down e) (down_pos e) (apart V n * down d) (distance n t k d)
-        (mul_right_comm (apart V n) (down d) (down e) ∙ ap (λ (x : ℕ). x * down d) (sym mine) ∙ a) in
-        let cross : m * up e * down d ≡ V * down d * down e = ap (λ (x : ℕ). x * down d) size_is ∙ mul_right_comm V (down e) (down d) in
+        eq_of_mul-eq-mul_right (down e) (down_pos e) (apart V n * down d) (distance n t k d) (omega (arith, a, ap (λ (x : ℕ). x * down d) mine)) in
+        let cross : m * up e * down d ≡ V * down d * down e = omega (arith, ap (λ (x : ℕ). x * down d) size_is) in
         (w t k d (digits_few f t k d g)).1 equal
         (λ r.
         both_ways _ other
@@ -141,7 +131,7 @@ module _ (f : Format) (n k : ℕ) (some : 0 < k) (from : 2 ^ (prec f - 1 + k) �
           × (apart (closest n (2 ^ k) * 2 ^ k) n * down e ≡ distance n t m e → ((closest n (2 ^ k) * 2 ^ k * down e ≡ m * up e) × ((t ≡ false) ⊎ (closest n (2 ^ k) * 2 ^ k * down e ≡ 0)) → ⊥) → E)
       go (inr far) =
           let near = mul-le-mul_right (down e) passed in
-          (le_trans near (le_of_lt far), λ h _. absurd (lt_irrefl (distance n t m e) (lt_of_le_of_lt (le_trans (le_of_eq (sym h)) near) far)))
+          (omega arith, λ h _. absurd (omega arith))
       go (inl (c, plus, is)) =
           let b = best n (2 ^ k) c (pow_pos k) in
           let dist : distance n t m e ≡ apart (c * 2 ^ k) n * down e =
@@ -160,10 +150,8 @@ even_of f (inf s) q j v a b c = absurd v
 even_of f (fin s m e) q j v a b c = (q, j, sym (mul-one (m * up e)) ∙ v.1, a, b, c)
 
 even_power : (f : Format) → 2 ^ (prec f - 1) % 2 ≡ 0
-even_power f =
-    let h = two f in
-    let is : prec f - 1 ≡ suc (prec f - 2) = omega arith in
-    ap (λ (x : ℕ). 2 ^ x % 2) is ∙ ap (λ (x : ℕ). x % 2) (pow-suc 2 (prec f - 2)) ∙ mul-mod_left (2 ^ (prec f - 2)) 2
+even_power binary32 = refl
+even_power binary64 = refl
 
 even_last : (f : Format) (x : Float) (q j : ℕ) → HasValue x false (q * 2 ^ j) 1 → 2 ^ (prec f - 1) ≤ q → q ≤ 2 ^ prec f → q % 2 ≡ 0 → EvenLast f x
 even_last f x q j v a b c =
@@ -171,13 +159,12 @@ even_last f x q j v a b c =
       | inr l ↦ even_of f x q j v a l c
       | inl e ↦
           let d = some_digits f in
-          let turn : prec f + j ≡ prec f - 1 + suc j = omega arith in
-          let is : q * 2 ^ j ≡ 2 ^ (prec f - 1) * 2 ^ suc j = ap (λ (y : ℕ). y * 2 ^ j) e ∙ sym (pow-add 2 (prec f) j) ∙ ap (λ (y : ℕ). 2 ^ y) turn ∙ pow-add 2 (prec f - 1) (suc j) in
+          let is : q * 2 ^ j ≡ 2 ^ (prec f - 1) * 2 ^ suc j = omega (arith, ap (λ (y : ℕ). y * 2 ^ j) e, ap (λ (y : ℕ). y * 2 ^ j) (twice f), ap (λ (y : ℕ). 2 ^ (prec f - 1) * y) (pow-suc 2 j)) in
           even_of f x (2 ^ (prec f - 1)) (suc j) (subst (λ (y : ℕ). HasValue x false y 1) is v) (le_refl (2 ^ (prec f - 1))) (pow-lt (let r : prec f - 1 < prec f = omega arith in r)) (even_power f)
     ]
 
 -- a whole number of 64 bits and the float that it is rounded to
-pub nearest_float : (f : Format) (n : ℕ) → n < 2 ^ 64 → Nearest f n (of_int f (pos n))
+nearest_float : (f : Format) (n : ℕ) → n < 2 ^ 64 → Nearest f n (of_int f (pos n))
 unfolding of_int
 nearest_float f n short =
     elim (cases_lt n (2 ^ prec f)) [
@@ -194,22 +181,5 @@ nearest_float f n short =
           (even_last f x (closest n (2 ^ k)) k v (closest_from f n k a b c) (closest_le (prec f) n k b)))
     ]
 
--- ---- the bits of that float are no NaN's, and read as it
-no_nan : (f : Format) (n : ℕ) (x : Float) → Nearest f n x → T (not (is_nan x))
-unfolding is_nan
-no_nan f n nan h = absurd (h.no_nearer nan h.held)
-no_nan f n (inf s) h = tt
-no_nan f n (fin s m e) h = tt
-
-module _ (f : Format) (n : ℕ) (short : n < 2 ^ 64) (b : ℕ) (is : b ≡ to_bits f (of_int f (pos n))) where
-  pub read_back : of_bits f b ≡ of_int f (pos n)
-  read_back = ap (of_bits f) is ∙ of_bits-to_bits f (of_int f (pos n)) (of_int-fits f (pos n))
-
-  pub bits_no_nan : T (not (nan_bits f b))
-  bits_no_nan = subst (λ (a : Bool). T (not a)) (sym (nan_bits_is f b ∙ ap is_nan read_back)) (no_nan f n (of_int f (pos n)) (nearest_float f n short))
-
-  pub bits_fit : b < 2 * top f
-  bits_fit = subst (λ (a : ℕ). a < 2 * top f) (sym is) (to_bits-lt f (of_int f (pos n)) (of_int-fits f (pos n)))
-
-  pub nearest_read : Nearest f n (of_bits f b)
-  nearest_read = subst (Nearest f n) (sym read_back) (nearest_float f n short)
+pub nearest_of : (f : Format) (n : ℕ) (x : Float) → n < 2 ^ 64 → x ≡ of_int f (pos n) → Nearest f n x
+nearest_of f n x short is = subst (Nearest f n) (sym is) (nearest_float f n short)

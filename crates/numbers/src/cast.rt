@@ -1,13 +1,12 @@
 // Casts between u64 and the floats, as IEEE 754 has them: an integer to the nearest float, a float
 // to its whole part.
-ghost use Rattle.std.specs.Prelude.{◌≡◌, ◌^◌, ◌<◌, ◌≤◌, pos, to_bits};
-ghost use Rattle.std.specs.Float.{Format, binary32, binary64};
-ghost use Rattle.std.specs.Float.Ieee.{prec, low, of_int, to_unsigned};
+ghost use Rattle.std.specs.Prelude.{◌≡◌, ◌*◌, ◌^◌, ◌<◌, ◌≤◌, pos, from_bits};
+ghost use Rattle.std.specs.Float.Ieee.{prec, ones, hid, of_int, to_unsigned};
 ghost use Rattle.std.specs.Float.Ieee.Nearest.{closest};
 ghost use Rattle.numbers.specs.Nearest.{Nearest};
 ghost use Rattle.numbers.specs.Whole.{WholePart};
 
-use std::num::f32_to_f64_with_nan;
+use crate::ieee::IeeeFloat;
 
 // The digit of an f64's significand that its bits leave out.
 const LEADING_DIGIT: u64 = 1 << 52;
@@ -29,47 +28,38 @@ fn rounded(n: u64, k: u32) -> u64
     }
 }
 
-// The bits of the float nearest to n, in a format whose significands have `digits` digits and whose
-// smallest value is 2^-lowest. The significand carries into the exponent's field by itself.
-fn nearest_bits(n: u64, digits: u32, lowest: u64) -> u64
-    requires { (2 ≤ digits) × (digits ≤ 53) × (lowest ≤ 1074) × (2 ^ digits ≤ n) }
-    ensures { (f : Format) → prec f ≡ digits → low f ≡ lowest → result ≡ to_bits f (of_int f (pos n)) }
+// The bits of the float nearest to n. The significand carries into the exponent's field by itself.
+#[tactic(auto, using(crate::proofs::Leading::zeros_few, crate::proofs::Leading::nearest_bits))]
+fn nearest_bits<F: IeeeFloat>(n: u64) -> u64
+    requires { 2 ^ prec F.format ≤ n }
+    ensures value { from_bits F.format result ≡ of_int F.format (pos n) }
+    ensures finite { result ≤ ones F.format * hid F.format }
 {
+    let digits = F::DIGITS;
     let zeros = n.leading_zeros();
     let excess = 64 - digits;
     let significand = rounded(n << zeros, excess);
-    let exponent = (excess - zeros) as u64 + lowest;
+    let exponent = (excess - zeros) as u64 + F::LOWEST;
     (exponent << (digits - 1)) + significand
 }
 
-/// The f32 nearest to `n`, a tie going to the even last digit.
-pub fn f32_from_u64(n: u64) -> f32
-    ensures is { result ≡ of_int binary32 (pos n) }
-    ensures nearest { Nearest binary32 n result }
+/// The float nearest to `n`, a tie going to the even last digit.
+// std's own casts take longer: to f32 everywhere, and to f64 up to 2^53.
+pub fn nearest<F: IeeeFloat>(n: u64) -> F
+    ensures is { F.value result ≡ of_int F.format (pos n) }
+    ensures nearest { Nearest F.format n (F.value result) }
 {
-    if n <= 0x100_0000 {
-        n as f32
+    if n <= 1 << F::DIGITS {
+        F::exact(n)
     } else {
-        f32::from_bits(nearest_bits(n, 24, 149) as u32)
+        F::of_bits(nearest_bits::<F>(n))
     }
 }
 
-/// The f64 nearest to `n`, a tie going to the even last digit.
-pub fn f64_from_u64(n: u64) -> f64
-    ensures is { result ≡ of_int binary64 (pos n) }
-    ensures nearest { Nearest binary64 n result }
-{
-    if n <= 0x20_0000_0000_0000 {
-        n as f64
-    } else {
-        f64::from_bits(nearest_bits(n, 53, 1074))
-    }
-}
-
-/// The whole part of `x`: 0 for a NaN and for what is below 0, 2^64 - 1 for what is larger.
-pub fn u64_from_f64(x: f64) -> u64
-    ensures is { result ≡ to_unsigned 64 x }
-    ensures whole { WholePart x result }
+// std's own cast takes longer, since it shifts to the left or to the right.
+#[tactic(auto, using(crate::proofs::Parts::below_one, crate::proofs::Parts::past_range, crate::proofs::Parts::f64_read))]
+fn truncated(x: f64) -> u64
+    ensures { result ≡ to_unsigned 64 x }
 {
     if !(1.0 <= x) {
         return 0;
@@ -85,10 +75,9 @@ pub fn u64_from_f64(x: f64) -> u64
 }
 
 /// The whole part of `x`: 0 for a NaN and for what is below 0, 2^64 - 1 for what is larger.
-pub fn u64_from_f32(x: f32) -> u64
-    ensures is { result ≡ to_unsigned 64 x }
-    ensures whole { WholePart x result }
+pub fn whole_part<F: IeeeFloat>(x: F) -> u64
+    ensures is { result ≡ to_unsigned 64 (F.value x) }
+    ensures whole { WholePart (F.value x) result }
 {
-    // every f32 is an f64
-    u64_from_f64(f32_to_f64_with_nan(x))
+    truncated(x.widened())
 }

@@ -5,6 +5,7 @@ ghost use Rattle.numbers.specs.Seconds.{in_seconds};
 const NANOS_PER_SEC: u64 = 1_000_000_000;
 
 /// A duration in seconds, as Rust's `Duration::as_secs_f64`.
+// std's own takes longer, since its seconds may be any u64.
 pub fn seconds(nanos: u64) -> f64
     ensures { result ≡ in_seconds nanos }
 {

@@ -4,7 +4,7 @@ ghost use Rattle.std.specs.Float.{binary64};
 ghost use Rattle.std.specs.Float.Ieee.{of_int};
 ghost use Rattle.numbers.specs.Figures.{Figures, root_of, through_single};
 
-use crate::cast::{f32_from_u64, f64_from_u64, u64_from_f32};
+use crate::cast::{nearest, whole_part};
 use crate::root::cube_root;
 
 /// What the worked figures come to.
@@ -25,16 +25,17 @@ pub struct Worked {
 fn through_f32(n: u64) -> u64
     ensures { result ≡ through_single n }
 {
-    u64_from_f32(f32_from_u64(n))
+    whole_part(nearest::<f32>(n))
 }
 
 fn root_of(n: u64) -> f64
     ensures { result ≡ root_of n }
 {
-    cube_root(f64_from_u64(n))
+    cube_root(nearest(n))
 }
 
 /// The worked figures, computed: the facts hold of the definitions, and the code gives them.
+#[tactic(auto, using(crate::proofs::Worked::figures))]
 pub fn compute() -> Worked
     ensures stand { Figures }
     ensures below { result.tie_to_even_below ≡ 16_777_216 }

@@ -5,8 +5,9 @@
 pub mod cast;
 pub mod duration;
 pub mod figures;
+mod ieee;
 pub mod root;
 
-pub use cast::{f32_from_u64, f64_from_u64, u64_from_f32, u64_from_f64};
+pub use cast::{nearest, whole_part};
 pub use duration::seconds;
 pub use root::{cube, cube_root};

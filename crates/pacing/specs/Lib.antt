@@ -1,2 +1,3 @@
+pub mod Buckets
 pub mod Pacing
 pub mod Laws

@@ -14,7 +14,7 @@ use Rattle.std.specs.declared.convert.Infallible.{Infallible as NoPermit}
 use Rattle.refusals.specs.declared.Refusal.{Refusal}
 use Rattle.refusals.specs.declared.Refusal.TheVariants.{OutsideLimit}
 use Rattle.values.specs.Saturating.{sum, product}
-use Rattle.pacing.specs.declared.pacer.Pacer.{Pacer as Bucket}
+use Rattle.pacing.specs.Buckets.{Bucket}
 
 -- the capacity
 abbrev pub burst : ℕ → ℕ → ℕ → ℕ
@@ -25,8 +25,7 @@ opened rtt window mtu time =
     record { capacity = burst rtt window mtu; last_window = window; last_mtu = mtu; tokens = burst rtt window mtu; prev = time }
 
 abbrev pub with_tokens : Bucket → ℕ → ℕ → Bucket
-with_tokens p n time =
-    record { capacity = p.capacity; last_window = p.last_window; last_mtu = p.last_mtu; tokens = n; prev = time }
+with_tokens p n time = record p { tokens = n; prev = time }
 
 -- a datagram takes its size, or what is there
 abbrev pub sent : Bucket → ℕ → Bucket
@@ -36,13 +35,12 @@ sent p n = with_tokens p (p.tokens - n) p.prev
 abbrev pub resized : Bucket → ℕ → ℕ → ℕ → Bucket
 resized p rtt window mtu =
     cond (window == p.last_window && mtu == p.last_mtu) p
-    record {
+    (record p {
       capacity = burst rtt window mtu;
       last_window = window;
       last_mtu = mtu;
       tokens = min (burst rtt window mtu) p.tokens;
-      prev = p.prev;
-    }
+    })
 
 -- 1.25
 abbrev pub five_quarters : Float

@@ -1,4 +1,8 @@
 // A token bucket that fills at 5/4 of a window for each round trip.
+ghost use Rattle.pacing.specs.Buckets.{Bucket, Bounded};
+
+use std::marker::Model;
+
 pub mod pacing;
 
 #[derive(Clone, Copy)]
@@ -11,4 +15,14 @@ pub struct Pacer {
     tokens: u64,
     // When the tokens were last counted.
     prev: u64,
+}
+
+impl Model for Pacer {
+    ghost Value = { Bucket };
+
+    ghost view = { λ p. record { capacity = p.capacity; last_window = p.last_window; last_mtu = p.last_mtu; tokens = p.tokens; prev = p.prev } };
+
+    ghost invariant = { λ p. Bounded (record { capacity = p.capacity; last_window = p.last_window; last_mtu = p.last_mtu; tokens = p.tokens; prev = p.prev }) };
+
+    ghost inverse = { λ b. record { capacity = b.capacity; last_window = b.last_window; last_mtu = b.last_mtu; tokens = b.tokens; prev = b.prev } };
 }

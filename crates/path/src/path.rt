@@ -8,6 +8,7 @@ use rtt::estimator::RttEstimator;
 pub mod calls;
 pub mod questions;
 
+// Clauses take its state by `state_of`: as the value of a model it would name the controller's model, which a `Value` cannot yet.
 #[derive(Drop)]
 pub struct Path<C> {
     tracker: Tracker,

@@ -3,7 +3,7 @@
 
 #[cfg(test)]
 mod tests {
-    use book::call::{Answer, Call, Event, Step};
+    use book::call::Step;
     use book::run::run;
     use new_reno::config::NewRenoConfig;
     use new_reno::new_reno::NewReno;
@@ -15,38 +15,6 @@ mod tests {
     use values::mtu::Mtu;
     use values::opening::Opening;
     use values::rtt::Rtt;
-
-    fn grant(size: u16, time: u64) -> Step {
-        Step::new(Call::Grant {
-            size,
-            time,
-            place: 0,
-        })
-    }
-
-    fn transmit() -> Step {
-        Step::new(Call::Transmit { place: 0 })
-    }
-
-    fn withdraw() -> Step {
-        Step::new(Call::Withdraw { place: 0 })
-    }
-
-    fn ack(number: u64, time: u64) -> Step {
-        Step::new(Call::Tell(Event::Ack {
-            number,
-            delay: 0,
-            app_limited: false,
-            time,
-        }))
-    }
-
-    fn end(time: u64) -> Step {
-        Step::new(Call::Tell(Event::End {
-            app_limited: false,
-            time,
-        }))
-    }
 
     fn opening(first: u64) -> Result<Opening, Refusal> {
         Opening::new(first, Mtu::new(1_200)?, Rtt::new(100_000_000)?, 0)
@@ -64,50 +32,56 @@ mod tests {
         let mut path = run(controller, opening, steps, &mut purse);
         let [left] = purse;
         if let Some(permit) = left {
-            match path.withdraw(permit) {
-                Ok(()) => {}
-                Err(_) => unreachable(),
-            }
+            path.withdraw(permit).unwrap();
         }
         Ok(path.report())
     }
 
-    // The number of the refusal, or 0.
-    fn refusal(step: &Step) -> u8 {
-        match step.answer {
-            Answer::Refused(refusal) => refusal.number(),
-            Answer::HandedBack(_) => 9,
-            Answer::NoCall | Answer::Granted(_) | Answer::Done => 0,
-        }
+    // The number of the refusal, where the call was made and refused.
+    fn refusal(step: &Step) -> Option<u8> {
+        step.answer?.err().map(|refusal| refusal.number())
     }
 
     #[test]
     fn size_of_none_or_above_the_mtu(rt: HostRuntime) -> Result<(), Fail> {
-        let mut steps = [grant(0, 0), grant(1_201, 0), grant(1_200, 0)];
+        let mut steps = [
+            Step::grant(0, 0),
+            Step::grant(1_201, 0),
+            Step::grant(1_200, 0),
+        ];
         let _ = play(12_000, 0, &mut steps)?;
-        assert_eq!(rt; refusal(&steps[0]), 2);
-        assert_eq!(rt; refusal(&steps[1]), 2);
-        assert_eq!(rt; refusal(&steps[2]), 0);
+        assert_eq!(rt; refusal(&steps[0]), Some(2));
+        assert_eq!(rt; refusal(&steps[1]), Some(2));
+        assert_eq!(rt; refusal(&steps[2]), None);
         Ok(())
     }
 
     #[test]
     fn time_that_goes_back_or_is_too_late(rt: HostRuntime) -> Result<(), Fail> {
-        let mut steps = [end(6), end(5), grant(1_200, 0x4000_0000_0000_0000), end(6)];
+        let mut steps = [
+            Step::end(6),
+            Step::end(5),
+            Step::grant(1_200, 0x4000_0000_0000_0000),
+            Step::end(6),
+        ];
         let _ = play(12_000, 0, &mut steps)?;
-        assert_eq!(rt; refusal(&steps[0]), 0);
-        assert_eq!(rt; refusal(&steps[1]), 3);
-        assert_eq!(rt; refusal(&steps[2]), 3);
-        assert_eq!(rt; refusal(&steps[3]), 0);
+        assert_eq!(rt; refusal(&steps[0]), None);
+        assert_eq!(rt; refusal(&steps[1]), Some(3));
+        assert_eq!(rt; refusal(&steps[2]), Some(3));
+        assert_eq!(rt; refusal(&steps[3]), None);
         Ok(())
     }
 
     #[test]
     fn last_number(rt: HostRuntime) -> Result<(), Fail> {
-        let mut steps = [grant(1_200, 0), withdraw(), grant(1_200, 0)];
+        let mut steps = [
+            Step::grant(1_200, 0),
+            Step::withdraw(),
+            Step::grant(1_200, 0),
+        ];
         let report = play(12_000, 0xffff_ffff_ffff, &mut steps)?;
-        assert_eq!(rt; refusal(&steps[0]), 0);
-        assert_eq!(rt; refusal(&steps[2]), 5);
+        assert_eq!(rt; refusal(&steps[0]), None);
+        assert_eq!(rt; refusal(&steps[2]), Some(5));
         assert_eq!(rt; report.handed_out, 1);
         assert_eq!(rt; report.counts.withdrawn, 1);
         Ok(())
@@ -115,14 +89,14 @@ mod tests {
 
     #[test]
     fn cell_of_a_number_in_flight(rt: HostRuntime) -> Result<(), Fail> {
-        let mut steps = [withdraw(); 514];
-        for i in 0..257 {
-            steps[2 * i] = grant(1_200, 0);
+        let mut steps = [Step::withdraw(); 514];
+        for step in steps.iter_mut().step_by(2) {
+            *step = Step::grant(1_200, 0);
         }
-        steps[1] = transmit();
+        steps[1] = Step::transmit();
         let report = play(12_000, 0, &mut steps)?;
-        assert_eq!(rt; refusal(&steps[510]), 0);
-        assert_eq!(rt; refusal(&steps[512]), 6);
+        assert_eq!(rt; refusal(&steps[510]), None);
+        assert_eq!(rt; refusal(&steps[512]), Some(6));
         assert_eq!(rt; report.handed_out, 256);
         assert_eq!(rt; report.counts.in_flight, 1);
         Ok(())
@@ -130,30 +104,37 @@ mod tests {
 
     #[test]
     fn window_that_is_full(rt: HostRuntime) -> Result<(), Fail> {
-        let mut steps = [transmit(); 12];
-        for i in 0..4 {
-            steps[2 * i] = grant(1_200, 0);
-        }
-        steps[8] = grant(1, 0);
-        steps[10] = grant(1_200, 0);
-        steps[11] = grant(1_199, 0);
+        let mut steps = [
+            Step::grant(1_200, 0),
+            Step::transmit(),
+            Step::grant(1_200, 0),
+            Step::transmit(),
+            Step::grant(1_200, 0),
+            Step::transmit(),
+            Step::grant(1_200, 0),
+            Step::transmit(),
+            Step::grant(1, 0),
+            Step::transmit(),
+            Step::grant(1_200, 0),
+            Step::grant(1_199, 0),
+        ];
         let report = play(6_000, 0, &mut steps)?;
-        assert_eq!(rt; refusal(&steps[8]), 0);
-        assert_eq!(rt; refusal(&steps[10]), 7);
-        assert_eq!(rt; refusal(&steps[11]), 0);
+        assert_eq!(rt; refusal(&steps[8]), None);
+        assert_eq!(rt; refusal(&steps[10]), Some(7));
+        assert_eq!(rt; refusal(&steps[11]), None);
         assert_eq!(rt; report.counts.in_flight, 5);
         Ok(())
     }
 
     #[test]
     fn eleventh_of_a_burst(rt: HostRuntime) -> Result<(), Fail> {
-        let mut steps = [transmit(); 21];
-        for i in 0..11 {
-            steps[2 * i] = grant(1_200, 0);
+        let mut steps = [Step::transmit(); 21];
+        for step in steps.iter_mut().step_by(2) {
+            *step = Step::grant(1_200, 0);
         }
         let report = play(240_000, 0, &mut steps)?;
-        assert_eq!(rt; refusal(&steps[18]), 0);
-        assert_eq!(rt; refusal(&steps[20]), 8);
+        assert_eq!(rt; refusal(&steps[18]), None);
+        assert_eq!(rt; refusal(&steps[20]), Some(8));
         assert_eq!(rt; steps[20].pace, Some(4_000_000));
         assert_eq!(rt; report.counts.in_flight, 10);
         Ok(())
@@ -161,11 +142,17 @@ mod tests {
 
     #[test]
     fn number_that_is_not_in_flight(rt: HostRuntime) -> Result<(), Fail> {
-        let mut steps = [grant(1_200, 0), ack(0, 0), transmit(), ack(0, 1), ack(0, 1)];
+        let mut steps = [
+            Step::grant(1_200, 0),
+            Step::ack(0, 0),
+            Step::transmit(),
+            Step::ack(0, 1),
+            Step::ack(0, 1),
+        ];
         let _ = play(12_000, 0, &mut steps)?;
-        assert_eq!(rt; refusal(&steps[1]), 10);
-        assert_eq!(rt; refusal(&steps[3]), 0);
-        assert_eq!(rt; refusal(&steps[4]), 10);
+        assert_eq!(rt; refusal(&steps[1]), Some(10));
+        assert_eq!(rt; refusal(&steps[3]), None);
+        assert_eq!(rt; refusal(&steps[4]), Some(10));
         Ok(())
     }
 

@@ -1,36 +1,13 @@
 // What may be done with a permit on a way out. Each use has a neighbour that does not compile: see `misuse/`.
 #![tactic(auto)]
 
-ghost use Rattle.std.specs.Prelude.{◌≡◌, true, length, is_some, ◌==◌};
-ghost use Rattle.cells.specs.Tables.{is_held};
-ghost use Rattle.path.specs.Paths.{state_of, withdrawn};
-ghost use Rattle.permits.specs.Uses.{grant_answer, grant_state, transmit_state, block_answer, block_state, number_of, own_state, other_state};
+ghost use Rattle.std.specs.Prelude.{◌≡◌, length, ◌==◌};
+ghost use Rattle.path.specs.Paths.{state_of, grant_answer, grant_state};
+ghost use Rattle.permits.specs.Uses.{block_answer, block_state, number_of, own_state, other_state};
 
 use congestion::controller::Controller;
 use path::path::Path;
-use path::permit::Permit;
 use refusals::{Layer, Refusal};
-
-// A permit that its own path granted is held there, so the path takes it back.
-fn take_back<C: Controller>(path: &mut Path<C>, permit: Permit)
-    requires { is_some (is_held path.old.tracker.table permit.number permit.size) ≡ true }
-    ensures { state_of C.model path.new ≡ withdrawn (state_of C.model path.old) permit.number permit.size }
-{
-    match path.withdraw(permit) {
-        Ok(()) => {}
-        Err(_) => unreachable(),
-    }
-}
-
-fn send<C: Controller>(path: &mut Path<C>, permit: Permit)
-    requires { is_some (is_held path.old.tracker.table permit.number permit.size) ≡ true }
-    ensures { state_of C.model path.new ≡ transmit_state C.after_sent (state_of C.model path.old) permit }
-{
-    match path.transmit(permit) {
-        Ok(()) => {}
-        Err(_) => unreachable(),
-    }
-}
 
 /// Sends a block that must fill a datagram exactly; a block of another length is refused 1, and its permit is withdrawn before that
 /// is passed up.
@@ -40,16 +17,17 @@ pub fn send_block<C: Controller>(
     size: u16,
     time: u64,
 ) -> Result<u64, Refusal>
-    ensures answer { result ≡ block_answer (grant_answer C.meaning (state_of C.model path.old) size time) (length block.now == size) }
-    ensures state { state_of C.model path.new ≡ block_state C.after_sent (grant_state C.meaning (state_of C.model path.old) size time) (grant_answer C.meaning (state_of C.model path.old) size time) (length block.now == size) }
+    ensures answer { result ≡ block_answer (grant_answer C.rules (state_of C.model path.old) size time) (length block.now == size) }
+    ensures state { state_of C.model path.new ≡ block_state C.rules (grant_state C.rules (state_of C.model path.old) size time) (grant_answer C.rules (state_of C.model path.old) size time) (length block.now == size) }
 {
     let permit = path.grant(size, time)?;
     let number = permit.number();
+    // A permit that its own path granted is held there, so the path takes it.
     if block.len() != size as usize {
-        take_back(path, permit);
+        path.withdraw(permit).unwrap();
         return Err(Refusal::OutsideLimit(Layer::Value));
     }
-    send(path, permit);
+    path.transmit(permit).unwrap();
     Ok(number)
 }
 
@@ -60,17 +38,15 @@ pub fn present_again<C: Controller>(
     size: u16,
     time: u64,
 ) -> Result<u64, Refusal>
-    ensures answer { result ≡ number_of (grant_answer C.meaning (state_of C.model own.old) size time) }
-    ensures own { state_of C.model own.new ≡ own_state C.after_sent (grant_state C.meaning (state_of C.model own.old) size time) (state_of C.model other.old) (grant_answer C.meaning (state_of C.model own.old) size time) }
-    ensures other { state_of C.model other.new ≡ other_state C.after_sent (state_of C.model other.old) (grant_answer C.meaning (state_of C.model own.old) size time) }
+    ensures answer { result ≡ number_of (grant_answer C.rules (state_of C.model own.old) size time) }
+    ensures own { state_of C.model own.new ≡ own_state C.rules (grant_state C.rules (state_of C.model own.old) size time) (state_of C.model other.old) (grant_answer C.rules (state_of C.model own.old) size time) }
+    ensures other { state_of C.model other.new ≡ other_state C.rules (state_of C.model other.old) (grant_answer C.rules (state_of C.model own.old) size time) }
 {
     let permit = own.grant(size, time)?;
     let number = permit.number();
     if let Err(refusal) = other.transmit(permit) {
-        match refusal.into_permit() {
-            Some(back) => send(own, back),
-            None => unreachable(),
-        }
+        let back = refusal.into_permit().unwrap();
+        own.transmit(back).unwrap();
     }
     Ok(number)
 }

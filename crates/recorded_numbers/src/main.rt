@@ -2,8 +2,8 @@
 // output. A float is written by its bits.
 #![tactic(auto)]
 
-use anyhow::anyhow;
-use numbers::{cube, cube_root, f32_from_u64, f64_from_u64, seconds, u64_from_f32, u64_from_f64};
+use anyhow::{Context, bail};
+use numbers::{cube, cube_root, nearest, seconds, whole_part};
 use std::fmt;
 use std::io::{BufRead, BufReader};
 use std::num::{
@@ -42,31 +42,28 @@ fn number(text: &str) -> anyhow::Result<u64> {
 }
 
 fn call(line: &str) -> anyhow::Result<Answer> {
-    let Some((name, argument)) = line.split_once(' ') else {
-        return Err(anyhow!("a call is a name and a number"));
-    };
+    let (name, argument) = line
+        .split_once(' ')
+        .context("a call is a name and a number")?;
     let n = number(argument)?;
-    match name {
-        "f32_from_u64" => Ok(Answer::Single(f32_from_u64(n))),
-        "f64_from_u64" => Ok(Answer::Double(f64_from_u64(n))),
-        "u64_from_f32" => Ok(Answer::Whole(u64_from_f32(f32_from_bits_with_nan(u32::try_from(
-            n,
-        )?)))),
-        "u64_from_f64" => Ok(Answer::Whole(u64_from_f64(f64_from_bits_with_nan(n)))),
-        "seconds" => Ok(Answer::Double(seconds(n))),
-        "cube" => Ok(Answer::Double(cube(f64_from_bits_with_nan(n)))),
-        "cube_root" => Ok(Answer::Double(cube_root(f64_from_bits_with_nan(n)))),
-        _ => Err(anyhow!("no such call")),
-    }
+    Ok(match name {
+        "f32_from_u64" => Answer::Single(nearest(n)),
+        "f64_from_u64" => Answer::Double(nearest(n)),
+        "u64_from_f32" => {
+            let bits = u32::try_from(n)?;
+            Answer::Whole(whole_part(f32_from_bits_with_nan(bits)))
+        }
+        "u64_from_f64" => Answer::Whole(whole_part(f64_from_bits_with_nan(n))),
+        "seconds" => Answer::Double(seconds(n)),
+        "cube" => Answer::Double(cube(f64_from_bits_with_nan(n))),
+        "cube_root" => Answer::Double(cube_root(f64_from_bits_with_nan(n))),
+        _ => bail!("no such call"),
+    })
 }
 
-fn replay(rt: &HostRuntime) -> anyhow::Result<()> {
+fn main(rt: HostRuntime) -> anyhow::Result<()> {
     for line in BufReader::new(rt.alloc(), rt.stdin())?.lines(rt.alloc()) {
         rt.println(call(line?.as_str())?)?;
     }
     Ok(())
-}
-
-fn main(rt: HostRuntime) -> anyhow::Result<()> {
-    replay(&rt)
 }

@@ -5,6 +5,7 @@ ghost use Rattle.std.specs.Prelude.{◌≡◌, Some};
 ghost use Rattle.refusals.specs.Refusals.{number_of, layer_of, layer_name, refusal_text, permit_of};
 
 use std::convert::Infallible;
+use std::error::Error;
 use std::fmt;
 
 // The layer that refuses.
@@ -87,17 +88,7 @@ impl<P> Refusal<P> {
     {
         match self {
             Refusal::NotHeld(permit) => Some(permit),
-            Refusal::OutsideLimit(_)
-            | Refusal::Size
-            | Refusal::Time
-            | Refusal::Held
-            | Refusal::NumbersExhausted
-            | Refusal::CellTaken
-            | Refusal::Window
-            | Refusal::Paced(_)
-            | Refusal::NotInFlight
-            | Refusal::Malformed
-            | Refusal::UnknownKind => None,
+            _ => None,
         }
     }
 }
@@ -125,3 +116,5 @@ impl<P> fmt::Display for Refusal<P> {
         write!(f, "r{number} {layer}")
     }
 }
+
+impl<P: fmt::Debug + Drop> Error for Refusal<P> {}

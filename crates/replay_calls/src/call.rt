@@ -1,6 +1,9 @@
 // A call as it is recorded: a name and its arguments, with a space between.
-use anyhow::anyhow;
+use anyhow::{Context, anyhow};
 use std::fmt;
+use std::num::ParseIntError;
+use std::str::FromStr;
+use values::mtu::Mtu;
 
 #[derive(Clone, Copy)]
 pub(crate) struct Call<'a> {
@@ -8,22 +11,17 @@ pub(crate) struct Call<'a> {
     arguments: &'a str,
 }
 
-pub(crate) fn parse(line: &str) -> Call<'_> {
-    match line.split_once(' ') {
-        Some((name, arguments)) => Call { name, arguments },
-        None => Call {
-            name: line,
-            arguments: "",
-        },
+impl<'a> From<&'a str> for Call<'a> {
+    fn from(line: &'a str) -> Call<'a> {
+        let (name, arguments) = line.split_once(' ').unwrap_or((line, ""));
+        Call { name, arguments }
     }
 }
 
 impl<'a> Call<'a> {
     pub(crate) fn word(&self, place: usize) -> anyhow::Result<&'a str> {
-        match self.arguments.split(' ').nth(place) {
-            Some(word) => Ok(word),
-            None => Err(anyhow!("an argument is missing")),
-        }
+        let mut words = self.arguments.split(' ');
+        words.nth(place).context("an argument is missing")
     }
 
     // A number in decimal.
@@ -35,17 +33,18 @@ impl<'a> Call<'a> {
         Ok(u16::try_from(self.number(place)?)?)
     }
 
+    pub(crate) fn mtu(&self, place: usize) -> anyhow::Result<Mtu> {
+        Mtu::new(self.size(place)?).map_err(|_| anyhow!("no MTU"))
+    }
+
     // 0 or 1.
     pub(crate) fn flag(&self, place: usize) -> anyhow::Result<bool> {
         Ok(self.number(place)? == 1)
     }
 
-    // A number, or `none`.
     pub(crate) fn number_if_any(&self, place: usize) -> anyhow::Result<Option<u64>> {
-        if self.word(place)? == "none" {
-            return Ok(None);
-        }
-        Ok(Some(self.number(place)?))
+        let OrNone(number) = self.word(place)?.parse::<OrNone>()?;
+        Ok(number)
     }
 
     // The bits of a float, in hexadecimal.
@@ -54,9 +53,25 @@ impl<'a> Call<'a> {
     }
 }
 
+// A value that a recorded call describes and makes. It is not `TryFrom`, since a bound over a call's lifetime gets no proof.
+pub(crate) trait FromCall {
+    fn from_call(call: &Call) -> anyhow::Result<Self>;
+}
+
 // A number, or `none`.
 #[derive(Clone, Copy)]
 pub(crate) struct OrNone(pub(crate) Option<u64>);
+
+impl FromStr for OrNone {
+    type Err = ParseIntError;
+
+    fn from_str(word: &str) -> Result<OrNone, ParseIntError> {
+        if word == "none" {
+            return Ok(OrNone(None));
+        }
+        Ok(OrNone(Some(word.parse::<u64>()?)))
+    }
+}
 
 impl fmt::Display for OrNone {
     fn fmt<W: fmt::Write>(&self, f: &mut fmt::Formatter<W>) -> fmt::Result {

@@ -1,14 +1,14 @@
 // Calls of a congestion controller, with the estimator that it is shown.
-use crate::call::{Call, OrNone};
-use crate::pacer_calls::mtu;
+use crate::call::{Call, FromCall, OrNone};
+use crate::replayed::{Fields, Replayed};
 use crate::rtt_calls;
 use anyhow::anyhow;
 use congestion::controller::Controller;
-use congestion::metrics::ControllerMetrics;
 use cubic::config::CubicConfig;
 use cubic::cubic::Cubic;
 use new_reno::config::NewRenoConfig;
 use new_reno::new_reno::NewReno;
+use refusals::Refusal;
 use rtt::estimator::RttEstimator;
 use std::fmt;
 use std::num::{f32_from_bits_with_nan, f32_to_bits_with_nan, f64_to_bits_with_nan};
@@ -16,30 +16,10 @@ use std::num::{f32_from_bits_with_nan, f32_to_bits_with_nan, f64_to_bits_with_na
 // The estimator before the first sample: the crate's 333 ms.
 const INITIAL_RTT: u64 = 333_000_000;
 
-#[derive(Clone, Copy)]
+#[derive(Drop)]
 pub(crate) struct Controlled<C> {
-    pub(crate) controller: C,
+    controller: C,
     rtt: RttEstimator,
-}
-
-pub(crate) fn opened<C: Drop>(controller: C) -> anyhow::Result<Controlled<C>> {
-    let rtt = rtt_calls::opened(INITIAL_RTT)?;
-    Ok(Controlled { controller, rtt })
-}
-
-pub(crate) fn new_reno(call: &Call) -> anyhow::Result<Controlled<NewReno>> {
-    let factor = f32_from_bits_with_nan(call.bits(3)?);
-    let Ok(config) = NewRenoConfig::new(call.number(0)?, factor) else {
-        return Err(anyhow!("no configuration"));
-    };
-    opened(NewReno::new(config, call.number(2)?, mtu(call, 1)?))
-}
-
-pub(crate) fn cubic(call: &Call) -> anyhow::Result<Controlled<Cubic>> {
-    let Ok(config) = CubicConfig::new(call.number(0)?) else {
-        return Err(anyhow!("no configuration"));
-    };
-    opened(Cubic::new(config, call.number(2)?, mtu(call, 1)?))
 }
 
 fn tell<C: Controller>(controller: &mut C, rtt: &RttEstimator, call: &Call) -> anyhow::Result<()> {
@@ -64,75 +44,87 @@ fn tell<C: Controller>(controller: &mut C, rtt: &RttEstimator, call: &Call) -> a
             call.flag(2)?,
             call.number(3)?,
         ),
-        "on_mtu_update" => controller.on_mtu_update(mtu(call, 0)?),
+        "on_mtu_update" => controller.on_mtu_update(call.mtu(0)?),
         _ => return Err(anyhow!("no call of a controller")),
     }
     Ok(())
 }
 
-pub(crate) fn perform<C: Controller>(
-    subject: &mut Controlled<C>,
-    call: &Call,
-) -> anyhow::Result<()> {
-    match call.name {
-        "rtt_new" => {
-            subject.rtt = rtt_calls::make(call)?;
-            Ok(())
+impl<C: FromCall + Drop> FromCall for Controlled<C> {
+    fn from_call(call: &Call) -> anyhow::Result<Controlled<C>> {
+        let controller = C::from_call(call)?;
+        let rtt = rtt_calls::opened(INITIAL_RTT)?;
+        Ok(Controlled { controller, rtt })
+    }
+}
+
+impl<C: Fields> Fields for Controlled<C> {
+    fn write_fields<W: fmt::Write>(&self, f: &mut fmt::Formatter<W>) -> fmt::Result {
+        self.controller.write_fields(f)
+    }
+}
+
+impl<C: Controller + FromCall + Fields + Drop> Replayed for Controlled<C> {
+    fn perform(&mut self, call: &Call) -> anyhow::Result<Option<OrNone>> {
+        match call.name {
+            "rtt_new" => self.rtt = RttEstimator::from_call(call)?,
+            "rtt_update" => rtt_calls::sample(&mut self.rtt, call)?,
+            _ => tell(&mut self.controller, &self.rtt, call)?,
         }
-        "rtt_update" => rtt_calls::sample(&mut subject.rtt, call),
-        _ => tell(&mut subject.controller, &subject.rtt, call),
+        Ok(None)
     }
-}
 
-// The answers of the questions.
-#[derive(Clone, Copy)]
-pub(crate) struct Answers {
-    window: u64,
-    metrics: ControllerMetrics,
-    initial_window: u64,
-}
-
-pub(crate) fn asked<C: Controller>(controller: &C) -> Answers {
-    Answers {
-        window: controller.window(),
-        metrics: controller.metrics(),
-        initial_window: controller.initial_window(),
-    }
-}
-
-impl fmt::Display for Answers {
-    fn fmt<W: fmt::Write>(&self, f: &mut fmt::Formatter<W>) -> fmt::Result {
-        let window = self.window;
-        let congestion_window = self.metrics.congestion_window;
-        let ssthresh = OrNone(self.metrics.ssthresh);
-        let pacing_rate = OrNone(self.metrics.pacing_rate);
-        let initial_window = self.initial_window;
+    fn write_answers<W: fmt::Write>(&self, f: &mut fmt::Formatter<W>) -> fmt::Result {
+        let window = self.controller.window();
+        let metrics = self.controller.metrics();
+        let congestion_window = metrics.congestion_window;
+        let ssthresh = OrNone(metrics.ssthresh);
+        let pacing_rate = OrNone(metrics.pacing_rate);
+        let initial_window = self.controller.initial_window();
         write!(
             f,
-            "{window} {congestion_window} {ssthresh} {pacing_rate} {initial_window}"
+            " {window} {congestion_window} {ssthresh} {pacing_rate} {initial_window}"
         )
     }
 }
 
-impl fmt::Display for Controlled<NewReno> {
-    fn fmt<W: fmt::Write>(&self, f: &mut fmt::Formatter<W>) -> fmt::Result {
-        let (config, mtu, window, ssthresh, recovery, acked) = self.controller.parts();
+// A configuration, where its limits are kept.
+pub(crate) fn accepted<T: Drop>(config: Result<T, Refusal>) -> anyhow::Result<T> {
+    config.map_err(|_| anyhow!("no configuration"))
+}
+
+impl FromCall for NewReno {
+    fn from_call(call: &Call) -> anyhow::Result<NewReno> {
+        let factor = f32_from_bits_with_nan(call.bits(3)?);
+        let config = accepted(NewRenoConfig::new(call.number(0)?, factor))?;
+        Ok(NewReno::new(config, call.number(2)?, call.mtu(1)?))
+    }
+}
+
+impl Fields for NewReno {
+    fn write_fields<W: fmt::Write>(&self, f: &mut fmt::Formatter<W>) -> fmt::Result {
+        let (config, mtu, window, ssthresh, recovery, acked) = self.parts();
         let initial = config.initial_window();
         let factor = f32_to_bits_with_nan(config.loss_reduction_factor());
         let mtu = mtu.get();
         write!(
             f,
-            "{initial} {factor:08x} {mtu} {window} {ssthresh} {recovery} {acked} "
-        )?;
-        let answers = asked(&self.controller);
-        write!(f, "{answers}")
+            "{initial} {factor:08x} {mtu} {window} {ssthresh} {recovery} {acked}"
+        )
     }
 }
 
-impl fmt::Display for Controlled<Cubic> {
-    fn fmt<W: fmt::Write>(&self, f: &mut fmt::Formatter<W>) -> fmt::Result {
-        let (window, ssthresh, recovery, state, mtu) = self.controller.parts();
-        let initial = self.controller.initial_window();
+impl FromCall for Cubic {
+    fn from_call(call: &Call) -> anyhow::Result<Cubic> {
+        let config = accepted(CubicConfig::new(call.number(0)?))?;
+        Ok(Cubic::new(config, call.number(2)?, call.mtu(1)?))
+    }
+}
+
+impl Fields for Cubic {
+    fn write_fields<W: fmt::Write>(&self, f: &mut fmt::Formatter<W>) -> fmt::Result {
+        let (window, ssthresh, recovery, state, mtu) = self.parts();
+        let initial = self.initial_window();
         let recovery = OrNone(recovery);
         let k = f64_to_bits_with_nan(state.k);
         let w_max = f64_to_bits_with_nan(state.w_max);
@@ -140,9 +132,7 @@ impl fmt::Display for Controlled<Cubic> {
         let mtu = mtu.get();
         write!(
             f,
-            "{initial} {window} {ssthresh} {recovery} {k:016x} {w_max:016x} "
-        )?;
-        let answers = asked(&self.controller);
-        write!(f, "{cwnd_inc} {mtu} {answers}")
+            "{initial} {window} {ssthresh} {recovery} {k:016x} {w_max:016x} {cwnd_inc} {mtu}"
+        )
     }
 }

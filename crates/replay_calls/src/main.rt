@@ -2,163 +2,98 @@
 // answer, if it has one. A line `module NAME` says whose calls follow; each sequence of calls starts with `new`.
 #![tactic(auto)]
 
+ghost use Rattle.replay_calls.specs.Recordings.{ReadsCall};
+
 mod bbr_controller_calls;
 mod bw_calls;
 mod call;
 mod controller_calls;
 mod min_max_calls;
 mod pacer_calls;
+mod recording;
+mod replayed;
 mod rtt_calls;
 
-use crate::bbr_controller_calls::BbrSubject;
-use crate::bw_calls::BandwidthState;
-use crate::call::{Call, OrNone, parse};
+use crate::call::{Call, FromCall, OrNone};
 use crate::controller_calls::Controlled;
-use crate::min_max_calls::FilterState;
-use crate::pacer_calls::PacerState;
-use crate::rtt_calls::EstimatorState;
+use crate::recording::{Module, Recording};
+use crate::replayed::{Replayed, StateOf};
 use anyhow::anyhow;
 use bandwidth::bw_estimation::BandwidthEstimation;
+use bbr::bbr::Bbr;
 use cubic::cubic::Cubic;
+use draws::recorded::Recorded;
+use draws::xorshift::Xorshift;
 use filter::min_max::MinMax;
 use new_reno::new_reno::NewReno;
 use pacing::pacer::Pacer;
 use rtt::estimator::RttEstimator;
-use std::fmt;
-use std::fmt::Display;
 use std::io::{BufRead, BufReader};
 
-#[derive(Clone, Copy)]
-enum Module {
-    Rtt,
-    MinMax,
-    Bandwidth,
-    Pacer,
-    NewReno,
-    Cubic,
-    Bbr,
-}
-
-// What the calls are made on.
-#[derive(Clone, Copy)]
-enum Subject {
-    Rtt(RttEstimator),
-    MinMax(MinMax<u64>),
-    Bandwidth(BandwidthEstimation),
-    Pacer(Pacer),
-    NewReno(Controlled<NewReno>),
-    Cubic(Controlled<Cubic>),
-    Bbr(BbrSubject),
-}
-
-fn named(name: &str) -> anyhow::Result<Module> {
-    match name {
-        "rtt" => Ok(Module::Rtt),
-        "min_max" => Ok(Module::MinMax),
-        "bw" => Ok(Module::Bandwidth),
-        "pacer" => Ok(Module::Pacer),
-        "new_reno" => Ok(Module::NewReno),
-        "cubic" => Ok(Module::Cubic),
-        "bbr" | "bbr_modes" | "bbr_edges" | "bbr_connections" => Ok(Module::Bbr),
-        _ => Err(anyhow!("no such module")),
-    }
-}
-
-fn made(module: Module, call: &Call) -> anyhow::Result<Subject> {
-    match module {
-        Module::Rtt => Ok(Subject::Rtt(rtt_calls::make(call)?)),
-        Module::MinMax => Ok(Subject::MinMax(MinMax::new())),
-        Module::Bandwidth => Ok(Subject::Bandwidth(BandwidthEstimation::new())),
-        Module::Pacer => Ok(Subject::Pacer(pacer_calls::make(call)?)),
-        Module::NewReno => Ok(Subject::NewReno(controller_calls::new_reno(call)?)),
-        Module::Cubic => Ok(Subject::Cubic(controller_calls::cubic(call)?)),
-        Module::Bbr => Ok(Subject::Bbr(bbr_controller_calls::make(call)?)),
-    }
-}
-
-// The subject after a call, and the answer, where the call has one.
-fn performed(subject: Subject, call: &Call) -> anyhow::Result<(Subject, Option<OrNone>)> {
-    match subject {
-        Subject::Rtt(mut estimator) => {
-            rtt_calls::perform(&mut estimator, call)?;
-            Ok((Subject::Rtt(estimator), None))
-        }
-        Subject::MinMax(mut filter) => {
-            min_max_calls::perform(&mut filter, call)?;
-            Ok((Subject::MinMax(filter), None))
-        }
-        Subject::Bandwidth(mut estimation) => {
-            let answer = bw_calls::perform(&mut estimation, call)?;
-            Ok((Subject::Bandwidth(estimation), answer))
-        }
-        Subject::Pacer(mut pacer) => {
-            let answer = pacer_calls::perform(&mut pacer, call)?;
-            Ok((Subject::Pacer(pacer), answer))
-        }
-        Subject::NewReno(mut controlled) => {
-            controller_calls::perform(&mut controlled, call)?;
-            Ok((Subject::NewReno(controlled), None))
-        }
-        Subject::Cubic(mut controlled) => {
-            controller_calls::perform(&mut controlled, call)?;
-            Ok((Subject::Cubic(controlled), None))
-        }
-        Subject::Bbr(subject) => {
-            Ok((
-                Subject::Bbr(bbr_controller_calls::performed(subject, call)?),
-                None,
-            ))
-        }
-    }
-}
-
-impl fmt::Display for Subject {
-    fn fmt<W: fmt::Write>(&self, f: &mut fmt::Formatter<W>) -> fmt::Result {
-        match self {
-            Subject::Rtt(estimator) => EstimatorState(estimator).fmt(f),
-            Subject::MinMax(filter) => {
-                let best = filter.get();
-                FilterState(filter).fmt(f)?;
-                write!(f, " {best}")
-            }
-            Subject::Bandwidth(estimation) => BandwidthState(estimation).fmt(f),
-            Subject::Pacer(pacer) => PacerState(pacer).fmt(f),
-            Subject::NewReno(controlled) => controlled.fmt(f),
-            Subject::Cubic(controlled) => controlled.fmt(f),
-            Subject::Bbr(subject) => subject.fmt(f),
-        }
-    }
-}
-
-fn reply(rt: &HostRuntime, subject: &Subject, answer: Option<OrNone>) -> anyhow::Result<()> {
+fn reply<S: Replayed>(rt: &impl Print, subject: &S, answer: Option<OrNone>) -> anyhow::Result<()> {
+    let state = StateOf(subject);
     match answer {
-        Some(answer) => println!(rt; "{subject} {answer}")?,
-        None => println!(rt; "{subject}")?,
+        Some(answer) => println!(rt; "{state} {answer}")?,
+        None => println!(rt; "{state}")?,
     }
     Ok(())
 }
 
-fn replay(rt: &HostRuntime) -> anyhow::Result<()> {
-    let mut current = Module::Rtt;
-    let mut subject: Option<Subject> = None;
-    for line in BufReader::new(rt.alloc(), rt.stdin())?.lines(rt.alloc()) {
-        let line = line?;
-        if let Some(name) = line.as_str().strip_prefix("module ") {
-            current = named(name)?;
-            println!(rt; "module {name}")?;
-            continue;
+// Replays a sequence of calls on the subject that the first one makes, and answers the line that begins the next sequence.
+fn replay_on<S: Replayed>(
+    rt: &impl Print,
+    recording: &mut Recording,
+    first: &Call,
+) -> anyhow::Result<Option<String>>
+    ensures { ReadsCall recording.old recording.new result }
+{
+    let mut subject = S::from_call(first)?;
+    reply(rt, &subject, None)?;
+    while let Some(line) = recording.next_call(rt)? {
+        let call = Call::from(line.as_str());
+        if call.name == "new" {
+            return Ok(Some(line));
         }
-        let call = parse(line.as_str());
-        let (next, answer) = match subject {
-            Some(subject) if call.name != "new" => performed(subject, &call)?,
-            _ => (made(current, &call)?, None),
-        };
-        reply(rt, &next, answer)?;
-        subject = Some(next);
+        let answer = subject.perform(&call)?;
+        reply(rt, &subject, answer)?;
+    }
+    Ok(None)
+}
+
+// Replays the sequence that `first` begins, on a subject of the module that was named last.
+fn replay_sequence(
+    rt: &impl Print,
+    recording: &mut Recording,
+    first: &Call,
+) -> anyhow::Result<Option<String>>
+    ensures { ReadsCall recording.old recording.new result }
+{
+    match recording.module {
+        Module::Rtt => replay_on::<RttEstimator>(rt, recording, first),
+        Module::MinMax => replay_on::<MinMax<u64>>(rt, recording, first),
+        Module::Bandwidth => replay_on::<BandwidthEstimation>(rt, recording, first),
+        Module::Pacer => replay_on::<Pacer>(rt, recording, first),
+        Module::NewReno => replay_on::<Controlled<NewReno>>(rt, recording, first),
+        Module::Cubic => replay_on::<Controlled<Cubic>>(rt, recording, first),
+        Module::Bbr => match first.word(3)? {
+            "recorded" => replay_on::<Controlled<Bbr<Recorded>>>(rt, recording, first),
+            "xorshift" => replay_on::<Controlled<Bbr<Xorshift>>>(rt, recording, first),
+            _ => Err(anyhow!("no source of draws")),
+        },
+    }
+}
+
+fn replay(rt: &impl Print, mut recording: Recording) -> anyhow::Result<()> {
+    let Some(mut first) = recording.next_call(rt)? else {
+        return Ok(());
+    };
+    while let Some(next) = replay_sequence(rt, &mut recording, &Call::from(first.as_str()))? {
+        first = next;
     }
     Ok(())
 }
 
 fn main(rt: HostRuntime) -> anyhow::Result<()> {
-    replay(&rt)
+    let lines = BufReader::new(rt.alloc(), rt.stdin())?.lines(rt.alloc());
+    replay(&rt, Recording::new(lines))
 }

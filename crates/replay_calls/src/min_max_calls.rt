@@ -1,27 +1,38 @@
 // Calls of the filter over u64.
-use crate::call::Call;
+use crate::call::{Call, FromCall, OrNone};
+use crate::replayed::{Fields, Replayed};
 use anyhow::anyhow;
 use filter::min_max::MinMax;
 use std::fmt;
 
-pub(crate) fn perform(filter: &mut MinMax<u64>, call: &Call) -> anyhow::Result<()> {
-    match call.name {
-        "update_max" => filter.update_max(call.number(0)?, call.number(1)?),
-        "reset" => filter.reset(),
-        _ => return Err(anyhow!("no call of a filter")),
+impl FromCall for MinMax<u64> {
+    fn from_call(_call: &Call) -> anyhow::Result<MinMax<u64>> {
+        Ok(MinMax::new())
     }
-    Ok(())
 }
 
-#[derive(Clone, Copy)]
-pub(crate) struct FilterState<'a>(pub(crate) &'a MinMax<u64>);
-
-impl fmt::Display for FilterState<'_> {
-    fn fmt<W: fmt::Write>(&self, f: &mut fmt::Formatter<W>) -> fmt::Result {
-        let window = self.0.window();
-        let (first, second, third) = self.0.samples();
+impl Fields for MinMax<u64> {
+    fn write_fields<W: fmt::Write>(&self, f: &mut fmt::Formatter<W>) -> fmt::Result {
+        let window = self.window();
+        let (first, second, third) = self.samples();
         write!(f, "{window} {} {} ", first.time, first.value)?;
         write!(f, "{} {} ", second.time, second.value)?;
         write!(f, "{} {}", third.time, third.value)
+    }
+}
+
+impl Replayed for MinMax<u64> {
+    fn perform(&mut self, call: &Call) -> anyhow::Result<Option<OrNone>> {
+        match call.name {
+            "update_max" => self.update_max(call.number(0)?, call.number(1)?),
+            "reset" => self.reset(),
+            _ => return Err(anyhow!("no call of a filter")),
+        }
+        Ok(None)
+    }
+
+    fn write_answers<W: fmt::Write>(&self, f: &mut fmt::Formatter<W>) -> fmt::Result {
+        let best = self.get();
+        write!(f, " {best}")
     }
 }

@@ -10,9 +10,7 @@ use values::rtt::Rtt;
 const INITIAL_RTT: u64 = 100_000_000;
 
 fn main(rt: HostRuntime) -> io::Result<()> {
-    let Ok(initial_rtt) = Rtt::new(INITIAL_RTT) else {
-        unreachable()
-    };
+    let initial_rtt = Rtt::new(INITIAL_RTT).unwrap();
     let mut input = Vec::new(rt.alloc());
     let _ = rt.stdin().read_to_end(&mut input)?;
     let report = replay(rt.alloc(), initial_rtt, input.as_slice())?;

@@ -4,6 +4,7 @@
 
 use bbr::bbr::Bbr;
 use bbr::config::BbrConfig;
+use congestion::controller::Controller;
 use cubic::config::CubicConfig;
 use cubic::cubic::Cubic;
 use draws::recorded::Recorded;
@@ -14,32 +15,33 @@ use std::{env, io};
 use values::mtu::Mtu;
 use values::rtt::Rtt;
 use window_log::report::replay;
-use window_log::session::Control;
 
 const USAGE: &str = "usage: replay_window new_reno|cubic|bbr\n";
 
+fn print_report<C: Controller + Drop>(
+    rt: &(impl Input + Print + AllocGlobal),
+    controller: C,
+) -> io::Result<()> {
+    let initial_rtt = Rtt::new(100_000_000).unwrap();
+    let mut log = Vec::new(rt.alloc());
+    let _ = rt.reader().read_to_end(&mut log)?;
+    let report = replay(rt.alloc(), controller, initial_rtt, log.as_slice())?;
+    io::writer(rt).write_all(report.as_slice())
+}
+
 fn main(rt: HostRuntime) -> io::Result<()> {
-    let Ok(mtu) = Mtu::new(1_200) else {
-        unreachable()
-    };
-    let Ok(initial_rtt) = Rtt::new(100_000_000) else {
-        unreachable()
-    };
+    let mtu = Mtu::new(1_200).unwrap();
     let Some(name) = env::args(&rt)?.nth(1) else {
         return print!(rt; "{USAGE}");
     };
-    let control = match name.as_str() {
-        "new_reno" => Control::NewReno(NewReno::new(NewRenoConfig::default(), 0, mtu)),
-        "cubic" => Control::Cubic(Cubic::new(CubicConfig::default(), 0, mtu)),
+    match name.as_str() {
+        "new_reno" => print_report(&rt, NewReno::new(NewRenoConfig::default(), 0, mtu)),
+        "cubic" => print_report(&rt, Cubic::new(CubicConfig::default(), 0, mtu)),
         "bbr" => {
             // Each place of the cycle that a draw can give, one after the other.
             let draws = Recorded::new([0, 1, 2, 3, 4, 5, 6, 0]);
-            Control::Bbr(Bbr::new(BbrConfig::default(), mtu, draws))
+            print_report(&rt, Bbr::new(BbrConfig::default(), mtu, draws))
         }
-        _ => return print!(rt; "{USAGE}"),
-    };
-    let mut log = Vec::new(rt.alloc());
-    let _ = rt.stdin().read_to_end(&mut log)?;
-    let report = replay(rt.alloc(), control, initial_rtt, log.as_slice())?;
-    rt.stdout().write_all(report.as_slice())
+        _ => print!(rt; "{USAGE}"),
+    }
 }

@@ -11,7 +11,7 @@
 -- peer's longest ack delay); the initial time, which stands for samples until the first one is there; the refusal of a
 -- sample outside the limits; the probe timeout (RFC 9002, section 6.2.1). The clock granularity G and the timeout RTO of
 -- RFC 6298 do not appear.
-use Rattle.std.specs.Prelude.{◌≡◌, ℕ, ◌+◌, ◌-◌, ◌*◌, ◌/◌, min, max, cond, Some, None, Ok, Err, Option, Result, nat_le}
+use Rattle.std.specs.Prelude.{◌≡◌, ℕ, ◌+◌, ◌-◌, ◌*◌, ◌/◌, ◌≤◌, min, max, cond, Some, None, Ok, Err, Option, Result, nat_le}
 use Rattle.std.specs.Option.{unwrap_or}
 use Rattle.values.specs.Limits.{InRtt}
 use Rattle.values.specs.Saturating.{sum}
@@ -19,7 +19,6 @@ use Rattle.refusals.specs.declared.Layer.TheVariants.{Estimator}
 use Rattle.std.specs.declared.convert.Infallible.{Infallible as NoPermit}
 use Rattle.refusals.specs.declared.Refusal.{Refusal}
 use Rattle.refusals.specs.declared.Refusal.TheVariants.{OutsideLimit}
-use Rattle.rtt.specs.declared.estimator.RttEstimator.{RttEstimator}
 
 pub record Estimate : Type 0 where
   pub latest : ℕ
@@ -27,9 +26,13 @@ pub record Estimate : Type 0 where
   pub variation : ℕ
   pub minimum : ℕ
 
--- what an estimator holds
-abbrev pub estimate_of : RttEstimator → Estimate
-estimate_of e = record { latest = e.latest; smoothed = e.smoothed; variation = e.var; minimum = e.min }
+-- What is so of every estimate: the latest sample, the smoothed time (or the latest, before there is one) and the least sample are
+-- round-trip times, and the variation is at most the longest.
+pub record Within (e : Estimate) : Type 0 where
+  pub latest : InRtt e.latest
+  pub smoothed : InRtt (unwrap_or e.smoothed e.latest)
+  pub variation : e.variation ≤ 10000000000
+  pub minimum : InRtt e.minimum
 
 -- before the first sample
 abbrev pub opened : ℕ → Estimate

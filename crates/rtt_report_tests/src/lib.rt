@@ -9,9 +9,7 @@ mod tests {
     use values::rtt::Rtt;
 
     fn reports(rt: &(impl Abort + AllocGlobal), input: &[u8], expected: &str) -> Result<(), Fail> {
-        let Ok(initial_rtt) = Rtt::new(100_000_000) else {
-            return Err(Fail::new("100 ms are within the limits"));
-        };
+        let initial_rtt = Rtt::new(100_000_000).unwrap();
         let report = replay(rt.alloc(), initial_rtt, input)?;
         assert_eq!(rt; report.as_str(), expected);
         Ok(())
@@ -51,10 +49,7 @@ mod tests {
 
     #[test]
     fn a_line_of_ten_thousand_digits(rt: HostRuntime) -> Result<(), Fail> {
-        let mut input = Vec::new(rt.alloc());
-        for _ in 0..10_000 {
-            input.push(b'9')?;
-        }
+        let mut input = vec![in rt.alloc(); b'9'; 10_000]?;
         reports(
             &rt,
             input.as_slice(),

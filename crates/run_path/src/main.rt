@@ -1,8 +1,9 @@
 // Runs a list of calls on a path above NewReno, and prints what each answered, the window that it met, and the report in the end.
 #![tactic(auto)]
 
-use book::call::{Call, Event, Step};
+use book::call::Step;
 use book::run::run;
+use book::text::Printed;
 use new_reno::config::NewRenoConfig;
 use new_reno::new_reno::NewReno;
 use std::io;
@@ -12,49 +13,9 @@ use values::rtt::Rtt;
 
 const MILLISECOND: u64 = 1_000_000;
 
-fn grant(size: u16, milliseconds: u32) -> Step {
-    Step::new(Call::Grant {
-        size,
-        time: milliseconds as u64 * MILLISECOND,
-        place: 0,
-    })
-}
-
-fn transmit() -> Step {
-    Step::new(Call::Transmit { place: 0 })
-}
-
-fn withdraw() -> Step {
-    Step::new(Call::Withdraw { place: 0 })
-}
-
-fn ack(number: u64, milliseconds: u32) -> Step {
-    Step::new(Call::Tell(Event::Ack {
-        number,
-        delay: 0,
-        app_limited: false,
-        time: milliseconds as u64 * MILLISECOND,
-    }))
-}
-
-fn end(milliseconds: u32) -> Step {
-    Step::new(Call::Tell(Event::End {
-        app_limited: false,
-        time: milliseconds as u64 * MILLISECOND,
-    }))
-}
-
-fn lose(number: u64, milliseconds: u32) -> Step {
-    Step::new(Call::Tell(Event::Lose {
-        number,
-        persistent: false,
-        time: milliseconds as u64 * MILLISECOND,
-    }))
-}
-
 fn print(rt: &HostRuntime, steps: &[Step]) -> io::Result<()> {
     for (place, step) in steps.iter().enumerate() {
-        let answer = step.answer;
+        let answer = Printed(step.answer);
         let window = step.window;
         println!(rt; "{place} {answer} {window}")?;
     }
@@ -62,41 +23,31 @@ fn print(rt: &HostRuntime, steps: &[Step]) -> io::Result<()> {
 }
 
 fn main(rt: HostRuntime) -> io::Result<()> {
-    let Ok(mtu) = Mtu::new(1_200) else {
-        unreachable()
-    };
-    let Ok(initial_rtt) = Rtt::new(100 * MILLISECOND) else {
-        unreachable()
-    };
-    let Ok(opening) = Opening::new(0, mtu, initial_rtt, 0) else {
-        unreachable()
-    };
+    let mtu = Mtu::new(1_200).unwrap();
+    let opening = Opening::new(0, mtu, Rtt::new(100 * MILLISECOND).unwrap(), 0).unwrap();
     let mut steps = [
-        grant(1_201, 1),
-        grant(1_200, 1),
-        ack(0, 1),
-        transmit(),
-        transmit(),
-        grant(1_200, 0),
-        grant(1_200, 2),
-        withdraw(),
-        ack(0, 51),
-        ack(0, 51),
-        end(51),
-        grant(1_200, 52),
-        transmit(),
-        lose(2, 60),
-        end(60),
+        Step::grant(1_201, MILLISECOND),
+        Step::grant(1_200, MILLISECOND),
+        Step::ack(0, MILLISECOND),
+        Step::transmit(),
+        Step::transmit(),
+        Step::grant(1_200, 0),
+        Step::grant(1_200, 2 * MILLISECOND),
+        Step::withdraw(),
+        Step::ack(0, 51 * MILLISECOND),
+        Step::ack(0, 51 * MILLISECOND),
+        Step::end(51 * MILLISECOND),
+        Step::grant(1_200, 52 * MILLISECOND),
+        Step::transmit(),
+        Step::lose(2, 60 * MILLISECOND),
+        Step::end(60 * MILLISECOND),
     ];
     let mut purse = [None];
     let controller = NewReno::new(NewRenoConfig::default(), 0, mtu);
     let mut path = run(controller, opening, &mut steps, &mut purse);
     let [left] = purse;
     if let Some(permit) = left {
-        match path.withdraw(permit) {
-            Ok(()) => {}
-            Err(_) => unreachable(),
-        }
+        path.withdraw(permit).unwrap();
     }
     print(&rt, &steps)?;
     let report = path.report();

@@ -7,9 +7,9 @@
 --   mtu SIZE                                  the path's MTU is SIZE now
 --
 -- Sizes are bytes and times nanoseconds, in decimal; one space stands between two words.
-use Rattle.std.specs.Prelude.{ℕ, ◌+◌, Bool, true, false, cond, List, [], take, drop, Some, None, Ok, Err, codes, Option, Result}
+use Rattle.std.specs.Prelude.{ℕ, Bool, true, false, cond, List, [], Ok, Err, codes, Result, unwrap_or}
 use Rattle.std.specs.Str.{bytes_eq}
-use Rattle.measurements.specs.Lines.{before}
+use Rattle.measurements.specs.Lines.{split_once}
 use Rattle.measurements.specs.Numbers.{number_in}
 use Rattle.measurements.specs.declared.number.NumberFault.{NumberFault}
 use Rattle.window_log.specs.declared.event.Event.{Event}
@@ -18,16 +18,17 @@ use Rattle.window_log.specs.declared.event.Fault.{Fault}
 use Rattle.window_log.specs.declared.event.Fault.TheVariants as fault
 use Rattle.window_log.specs.declared.event.Field.{Field}
 use Rattle.window_log.specs.declared.event.Field.TheVariants as field
-use Rattle.window_log.specs.declared.event.Kind.{Kind}
-use Rattle.window_log.specs.declared.event.Kind.TheVariants as kind
 use Rattle.window_log.specs.declared.event.Past.{Past}
 
 -- the first word, and what stands behind its space
+abbrev pub words : List ℕ → List ℕ × List ℕ
+words bs = unwrap_or (split_once 32 bs) (bs, [])
+
 abbrev pub word : List ℕ → List ℕ
-word bs = take (before 32 bs) bs
+word bs = (words bs).0
 
 abbrev pub behind : List ℕ → List ℕ
-behind bs = drop (before 32 bs + 1) bs
+behind bs = (words bs).1
 
 abbrev pub named : Field → Result ℕ NumberFault → Result ℕ Fault
 named which (Ok n) = Ok n
@@ -63,22 +64,14 @@ acked_in bs = and_then (past_in (codes "app-limited") bs) (λ p. Ok (Acked p))
 abbrev pub lost_in : List ℕ → Result Event Fault
 lost_in bs = and_then (past_in (codes "persistent") bs) (λ p. Ok (Lost p))
 
--- what a line is about, by its first word
-abbrev pub kind_in : List ℕ → Option Kind
-kind_in bs =
-    cond (bytes_eq bs (codes "sent")) (Some kind.Sent)
-    (cond (bytes_eq bs (codes "ack")) (Some kind.Ack)
-    (cond (bytes_eq bs (codes "lost")) (Some kind.Lost)
-    (cond (bytes_eq bs (codes "end")) (Some kind.End)
-    (cond (bytes_eq bs (codes "mtu")) (Some kind.Mtu) None))))
-
-abbrev pub event_of : Option Kind → List ℕ → Result Event Fault
-event_of (Some kind.Sent) bs = sent_in bs
-event_of (Some kind.Ack) bs = acked_in bs
-event_of (Some kind.Lost) bs = lost_in bs
-event_of (Some kind.End) bs = and_then (field_in field.Time bs) (λ t. Ok (End t))
-event_of (Some kind.Mtu) bs = and_then (field_in field.Size bs) (λ n. Ok (Resized n))
-event_of None bs = Err fault.Kind
+-- what a line tells, by its first word
+abbrev pub event_of : List ℕ → List ℕ → Result Event Fault
+event_of name bs =
+    cond (bytes_eq name (codes "sent")) (sent_in bs)
+    (cond (bytes_eq name (codes "ack")) (acked_in bs)
+    (cond (bytes_eq name (codes "lost")) (lost_in bs)
+    (cond (bytes_eq name (codes "end")) (and_then (field_in field.Time bs) (λ t. Ok (End t)))
+    (cond (bytes_eq name (codes "mtu")) (and_then (field_in field.Size bs) (λ n. Ok (Resized n))) (Err fault.Kind)))))
 
 abbrev pub event_in : List ℕ → Result Event Fault
-event_in bs = event_of (kind_in (word bs)) (behind bs)
+event_in bs = event_of (word bs) (behind bs)

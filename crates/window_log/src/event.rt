@@ -1,4 +1,5 @@
 use measurements::number::NumberFault;
+use std::error::Error;
 
 pub mod read;
 
@@ -8,7 +9,7 @@ pub struct Past {
     pub bytes: u64,
     pub sent: u64,
     pub time: u64,
-    /// App-limited, or persistent congestion.
+    /// Whether the line ends with its word: `app-limited` of an acknowledgement, `persistent` of a loss.
     pub flagged: bool,
 }
 
@@ -22,18 +23,8 @@ pub enum Event {
     Resized { size: u64 },
 }
 
-/// What a line is about, by its first word.
-#[derive(Clone, Copy)]
-pub enum Kind {
-    Sent,
-    Ack,
-    Lost,
-    End,
-    Mtu,
-}
-
 /// A number of a line.
-#[derive(Clone, Copy)]
+#[derive(Clone, Copy, Debug)]
 pub enum Field {
     Size,
     SentTime,
@@ -41,9 +32,11 @@ pub enum Field {
 }
 
 /// What is wrong with a line.
-#[derive(Clone, Copy)]
+#[derive(Clone, Copy, Debug)]
 pub enum Fault {
     Kind,
     Number(Field, NumberFault),
     Flag,
 }
+
+impl Error for Fault {}

@@ -1,10 +1,10 @@
 // The report of a replay.
 ghost use Rattle.std.specs.Prelude.{◌≡◌, ◌++◌, IfOk, OnOk};
 ghost use Rattle.window_log.specs.Reports.{row, report_of};
-ghost use Rattle.window_log.specs.Sessions.{chosen_of};
 
-use crate::session::{Control, Outcome, Session};
-use measurements::line::split_line;
+use crate::session::{Session, Standing, StepError};
+use congestion::controller::Controller;
+use measurements::lines::Lines;
 use measurements::parts::without_return;
 use std::alloc::{AllocError, Global};
 use values::rtt::Rtt;
@@ -14,36 +14,34 @@ fn put_row(
     heap: Global,
     report: &mut Vec<u8>,
     line: &[u8],
-    outcome: Option<Outcome>,
+    outcome: Result<Option<Standing>, StepError>,
 ) -> Result<(), AllocError>
     ensures { OnOk result (report.new.items ≡ report.old.items ++ row line.now outcome) }
 {
-    let Some(outcome) = outcome else {
-        return Ok(());
+    let text = match outcome {
+        Ok(None) => return Ok(()),
+        Ok(Some(standing)) => format!(in heap; ": {standing}\n")?,
+        Err(error) => format!(in heap; ": {error}\n")?,
     };
-    let text = format!(in heap; "{outcome}")?;
     report.extend_from_slice(line)?;
-    report.extend_from_slice(text.as_bytes())?;
-    Ok(())
+    report.extend_from_slice(text.as_bytes())
 }
 
 /// The report of a whole log: each line, and the window and threshold after it or what is wrong with it.
-pub fn replay(
+pub fn replay<C: Controller + Drop>(
     heap: Global,
-    control: Control,
+    controller: C,
     initial_rtt: Rtt,
     log: &[u8],
 ) -> Result<Vec<u8>, AllocError>
-    ensures { IfOk result (λ v. v.items ≡ report_of (chosen_of control) initial_rtt.nanos log.now) }
+    ensures { IfOk result (λ v. v.items ≡ report_of C.rules (C.model controller) initial_rtt.nanos log.now) }
 {
-    let mut session = Session::new(control, initial_rtt);
+    let mut session = Session::new(controller, initial_rtt);
     let mut report = Vec::new(heap);
-    let mut rest = log;
-    while let Some((line, after)) = split_line(rest) {
+    for line in Lines::new(log) {
         let line = without_return(line);
         let outcome = session.step(line);
         put_row(heap, &mut report, line, outcome)?;
-        rest = after;
     }
     Ok(report)
 }

@@ -1,9 +1,9 @@
 // What became of a line, as the report says it.
 ghost use Rattle.std.specs.Prelude.{Some};
-ghost use Rattle.window_log.specs.Reports.{field_text, fault_text, outcome_text};
+ghost use Rattle.window_log.specs.Reports.{field_text, fault_text, standing_text, error_text};
 
 use crate::event::{Fault, Field};
-use crate::session::Outcome;
+use crate::session::{Standing, StepError};
 use std::fmt;
 
 impl fmt::Display for Field {
@@ -30,15 +30,25 @@ impl fmt::Display for Fault {
     }
 }
 
-impl fmt::Display for Outcome {
-    ghost output = { λ x. Some (outcome_text x) };
+impl fmt::Display for Standing {
+    ghost output = { λ x. Some (standing_text x) };
+
+    fn fmt<W: fmt::Write>(&self, f: &mut fmt::Formatter<W>) -> fmt::Result {
+        let window = self.window;
+        match self.threshold {
+            Some(threshold) => write!(f, "{window} {threshold}"),
+            None => write!(f, "{window} none"),
+        }
+    }
+}
+
+impl fmt::Display for StepError {
+    ghost output = { λ x. Some (error_text x) };
 
     fn fmt<W: fmt::Write>(&self, f: &mut fmt::Formatter<W>) -> fmt::Result {
         match self {
-            Outcome::Told { window, threshold } => write!(f, ": {window} {threshold}\n"),
-            Outcome::ToldWindow { window } => write!(f, ": {window} none\n"),
-            Outcome::Refused(refusal) => write!(f, ": {refusal}\n"),
-            Outcome::Unreadable(fault) => write!(f, ": {fault}\n"),
+            StepError::Refused(refusal) => write!(f, "{refusal}"),
+            StepError::Unreadable(fault) => write!(f, "{fault}"),
         }
     }
 }

@@ -1,6 +1,6 @@
 // The crate's `Bbr`, call by call.
 ghost use Rattle.std.specs.Prelude.{◌≡◌};
-ghost use Rattle.bbr.specs.Model.{BbrModel, bbr_model, bbr_meaning, bbr_metrics, opened_with, bbr_sent, bbr_ack, bbr_end, bbr_loss, bbr_mtu};
+ghost use Rattle.bbr.specs.Model.{BbrModel, bbr_model, bbr_rules, opened_with};
 ghost use Rattle.bbr.specs.Keeps.{wide_enough};
 ghost use Rattle.std.proofs.Common.{rules};
 
@@ -45,33 +45,16 @@ impl<D: DrawSource + Copy> Bbr<D> {
     }
 }
 
-// In a generic impl a proof does not know the value of `Self::FLOOR`.
-const LEAST_DATAGRAMS: u64 = 3;
-
 impl<D: DrawSource> Controller for Bbr<D> {
-    const FLOOR: u64 = LEAST_DATAGRAMS;
+    const FLOOR: u64 = 3;
 
-    ghost least = { 3 };
+    ghost FLOOR = { 3 };
 
     ghost Model = { BbrModel D.Model };
 
     ghost model = { bbr_model D.model };
 
-    ghost meaning = { bbr_meaning };
-
-    ghost measured = { bbr_metrics };
-
-    ghost initial = { λ x. x.state.limits.initial_window };
-
-    ghost after_sent = { bbr_sent };
-
-    ghost after_ack = { bbr_ack };
-
-    ghost after_end = { bbr_end D.next_draw D.after_draw };
-
-    ghost after_loss = { bbr_loss };
-
-    ghost after_mtu = { bbr_mtu };
+    ghost rules = { bbr_rules D.next_draw D.after_draw };
 
     ghost small = { Prim.search rules };
 
@@ -88,10 +71,6 @@ impl<D: DrawSource> Controller for Bbr<D> {
     ghost loses = { Prim.search rules };
 
     ghost resizes = { Prim.search rules };
-
-    fn floor_datagrams() -> u64 {
-        LEAST_DATAGRAMS
-    }
 
     fn on_sent(&mut self, time: u64, bytes: u64, last_packet_number: u64) {
         self.totals.add_sent(bytes);

@@ -15,22 +15,21 @@ impl BbrConfig {
         Ok(BbrConfig { initial_window })
     }
 
-    /// An initial window of 240,000 bytes: 200 datagrams of 1,200.
-    pub fn default() -> BbrConfig
-        ensures { result.initial_window.bytes ≡ 240000 }
-    {
-        let initial_window = match InitialWindow::new(240_000) {
-            Ok(initial_window) => initial_window,
-            // 240,000 is within the limits.
-            Err(_) => InitialWindow::default(),
-        };
-        BbrConfig { initial_window }
-    }
-
     /// The initial window, in bytes.
     pub fn initial_window(&self) -> u64
         ensures { result ≡ self.now.initial_window.bytes }
     {
         self.initial_window.get()
+    }
+}
+
+impl Default for BbrConfig {
+    ghost is_default = { λ c. c.initial_window.bytes ≡ 240000 };
+
+    /// An initial window of 240,000 bytes: 200 datagrams of 1,200.
+    fn default() -> BbrConfig {
+        BbrConfig {
+            initial_window: InitialWindow::new(240_000).unwrap(),
+        }
     }
 }

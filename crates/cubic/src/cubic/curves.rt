@@ -1,9 +1,9 @@
-// The curves of CUBIC, over bytes and seconds.
+// The curves of CUBIC, over bytes and seconds. Each takes what its equation names, so that it reads as the RFC's.
 ghost use Rattle.std.specs.Prelude.{◌≡◌};
-ghost use Rattle.cubic.specs.Curves.{epoch_length, w_cubic, w_est, target as target_of, scaled_down, converged};
+ghost use Rattle.cubic.specs.Curves.{peak, epoch_length, w_cubic, w_est, target as target_of, scaled_down, converged};
 
 use crate::cubic::State;
-use numbers::{cube, cube_root, f64_from_u64, seconds, u64_from_f64};
+use numbers::{cube, cube_root, nearest, seconds, whole_part};
 
 const BETA_CUBIC: f64 = 0.7;
 
@@ -13,7 +13,7 @@ const C: f64 = 0.4;
 pub(super) fn scaled_down(n: u64) -> u64
     ensures { result ≡ scaled_down n }
 {
-    u64_from_f64(f64_from_u64(n) * BETA_CUBIC)
+    whole_part(nearest::<f64>(n) * BETA_CUBIC)
 }
 
 // The new `w_max` where a window is lost: fast convergence lowers it where the window had not come
@@ -29,19 +29,25 @@ pub(super) fn converged_max(w_max: f64, window: f64) -> f64
 }
 
 impl State {
+    // w_max in datagrams
+    fn peak(&self, max_datagram_size: u16) -> f64
+        ensures { result ≡ peak self.now max_datagram_size }
+    {
+        self.w_max / max_datagram_size as f64
+    }
+
     // K = cbrt(w_max * (1 - beta_cubic) / C) (Eq. 2)
     pub(super) fn cubic_k(&self, max_datagram_size: u16) -> f64
         ensures { result ≡ epoch_length self.now max_datagram_size }
     {
-        let w_max = self.w_max / max_datagram_size as f64;
-        cube_root(w_max * (1.0 - BETA_CUBIC) / C)
+        cube_root(self.peak(max_datagram_size) * (1.0 - BETA_CUBIC) / C)
     }
 
     // W_cubic(t) = C * (t - K)^3 + w_max (Eq. 1)
     fn w_cubic(&self, t: u64, max_datagram_size: u16) -> f64
         ensures { result ≡ w_cubic self.now t max_datagram_size }
     {
-        let w_max = self.w_max / max_datagram_size as f64;
+        let w_max = self.peak(max_datagram_size);
         (C * cube(seconds(t) - self.k) + w_max) * max_datagram_size as f64
     }
 
@@ -49,7 +55,7 @@ impl State {
     fn w_est(&self, t: u64, rtt: u64, max_datagram_size: u16) -> f64
         ensures { result ≡ w_est self.now t rtt max_datagram_size }
     {
-        let w_max = self.w_max / max_datagram_size as f64;
+        let w_max = self.peak(max_datagram_size);
         (w_max * BETA_CUBIC
             + 3.0 * (1.0 - BETA_CUBIC) / (1.0 + BETA_CUBIC) * seconds(t) / seconds(rtt))
             * max_datagram_size as f64
@@ -63,12 +69,12 @@ impl State {
         let w_est = self.w_est(t, rtt, max_datagram_size);
         if w_cubic < w_est {
             // TCP friendly region
-            window.max(u64_from_f64(w_est))
-        } else if window < u64_from_f64(w_cubic) {
+            window.max(whole_part(w_est))
+        } else if window < whole_part(w_cubic) {
             // Concave region or convex region use same increment
-            let size = f64_from_u64(window);
+            let size: f64 = nearest(window);
             let inc = (w_cubic - size) / size * max_datagram_size as f64;
-            window.saturating_add(u64_from_f64(inc))
+            window.saturating_add(whole_part(inc))
         } else {
             window
         }

@@ -1,11 +1,11 @@
 // The making of a path and its seven calls.
-ghost use Rattle.std.specs.Prelude.{◌≡◌, true, is_some, IfOk, Ok};
-ghost use Rattle.cells.specs.Tables.{admitted, is_held, landing, in_time};
-ghost use Rattle.path.specs.Paths.{state_of, opened, pace, permitted, granted, presented, transmitted, withdrawn, answered, is_newest, sample, sampled, acknowledged, ended, lost, resized};
+ghost use Rattle.std.specs.Prelude.{◌≡◌, IfOk};
+ghost use Rattle.cells.specs.Tables.{is_held, IsHeld, landing, in_time};
+ghost use Rattle.path.specs.Paths.{state_of, opened, grant_answer, grant_state, presented, transmit_state, withdrawn, answered, is_newest, sample, sampled, acknowledged, ended, lost, resized};
 
 use crate::path::Path;
 use crate::permit::Permit;
-use cells::table::Datagram;
+use cells::table::{Datagram, Label};
 use cells::tracker::Tracker;
 use congestion::controller::Controller;
 use filter::min_max::MinMax;
@@ -15,17 +15,14 @@ use refusals::Refusal;
 use rtt::estimator::RttEstimator;
 use values::mtu::Mtu;
 use values::opening::Opening;
-
-const MIN_RTT: u64 = 1_000;
-
-const MAX_RTT: u64 = 10_000_000_000;
+use values::rtt::Rtt;
 
 // The time since the grant, brought within the estimator's limits.
 fn round_trip(datagram: Datagram, time: u64) -> RttSample
     ensures { result ≡ sample datagram time }
 {
     RttSample {
-        rtt: time.saturating_sub(datagram.time).clamp(MIN_RTT, MAX_RTT),
+        rtt: Rtt::clamped(time.saturating_sub(datagram.time)).get(),
         number: datagram.number,
     }
 }
@@ -33,7 +30,7 @@ fn round_trip(datagram: Datagram, time: u64) -> RttSample
 impl<C: Controller> Path<C> {
     /// A path that has handed out nothing. The controller is told the MTU first, and the pacer starts from its window then.
     pub fn new(controller: C, opening: Opening) -> Path<C>
-        ensures { state_of C.model result ≡ opened C.meaning C.after_mtu (C.model controller) opening }
+        ensures { state_of C.model result ≡ opened C.rules (C.model controller) opening }
     {
         let mut controller = controller;
         controller.on_mtu_update(opening.mtu());
@@ -56,9 +53,9 @@ impl<C: Controller> Path<C> {
 
     /// Grants a datagram of `size` bytes: its number is held, and the permit goes out. Refusals 2 to 8.
     pub fn grant(&mut self, size: u16, time: u64) -> Result<Permit, Refusal>
-        ensures answer { result ≡ permitted self.old.tracker.table.next size (admitted self.old.tracker.table size time (C.meaning (C.model self.old.controller)).window) (pace C.meaning (state_of C.model self.old) size time) }
-        ensures state { state_of C.model self.new ≡ granted C.meaning (state_of C.model self.old) size time (admitted self.old.tracker.table size time (C.meaning (C.model self.old.controller)).window) (pace C.meaning (state_of C.model self.old) size time) }
-        ensures held { IfOk result (λ p. is_some (is_held self.new.tracker.table p.number p.size) ≡ true) }
+        ensures answer { result ≡ grant_answer C.rules (state_of C.model self.old) size time }
+        ensures state { state_of C.model self.new ≡ grant_state C.rules (state_of C.model self.old) size time }
+        ensures held { IfOk result (λ p. IsHeld self.new.tracker.table p.label) }
     {
         let window = self.controller.window();
         self.tracker.check(size, time, window)?;
@@ -71,15 +68,17 @@ impl<C: Controller> Path<C> {
             return Err(Refusal::Paced(ready));
         }
         let number = self.tracker.hold(size, time, window)?;
-        Ok(Permit { number, size })
+        Ok(Permit {
+            label: Label { number, size },
+        })
     }
 
     /// Sends what was granted: the number is in flight, and the controller and the pacer are told. Refusal 9 hands the permit back.
     pub fn transmit(&mut self, permit: Permit) -> Result<(), Refusal<Permit>>
-        ensures answer { result ≡ presented permit (is_held self.old.tracker.table permit.number permit.size) }
-        ensures state { state_of C.model self.new ≡ transmitted C.after_sent (state_of C.model self.old) permit.number permit.size (is_held self.old.tracker.table permit.number permit.size) }
+        ensures answer { result ≡ presented permit (is_held self.old.tracker.table permit.label) }
+        ensures state { state_of C.model self.new ≡ transmit_state C.rules (state_of C.model self.old) permit.label }
     {
-        let Some(datagram) = self.tracker.transmit(permit.number, permit.size) else {
+        let Some(datagram) = self.tracker.transmit(permit.label) else {
             return Err(Refusal::NotHeld(permit));
         };
         self.controller
@@ -91,12 +90,12 @@ impl<C: Controller> Path<C> {
 
     /// Gives back what was granted: the number is withdrawn, and nobody is told. Refusal 9 hands the permit back.
     pub fn withdraw(&mut self, permit: Permit) -> Result<(), Refusal<Permit>>
-        ensures answer { result ≡ presented permit (is_held self.old.tracker.table permit.number permit.size) }
-        ensures state { state_of C.model self.new ≡ withdrawn (state_of C.model self.old) permit.number permit.size }
+        ensures answer { result ≡ presented permit (is_held self.old.tracker.table permit.label) }
+        ensures state { state_of C.model self.new ≡ withdrawn (state_of C.model self.old) permit.label }
     {
-        let Some(_) = self.tracker.withdraw(permit.number, permit.size) else {
+        if self.tracker.withdraw(permit.label).is_none() {
             return Err(Refusal::NotHeld(permit));
-        };
+        }
         permit.spend();
         Ok(())
     }
@@ -104,25 +103,20 @@ impl<C: Controller> Path<C> {
     fn is_newest(&self, number: u64) -> bool
         ensures { result ≡ is_newest self.now.largest_acked number }
     {
-        match self.largest_acked {
-            Some(largest) => largest < number,
-            None => true,
-        }
+        self.largest_acked.is_none_or(|largest| largest < number)
     }
 
     // Only a number above all that were acknowledged before shows the present round trip.
-    fn take_sample(&mut self, datagram: Datagram, delay: u64, time: u64) -> Result<(), Refusal>
-        ensures answer { result ≡ Ok tt }
-        ensures state { state_of C.model self.new ≡ sampled (state_of C.model self.old) datagram delay time }
+    fn take_sample(&mut self, datagram: Datagram, delay: u64, time: u64)
+        ensures { state_of C.model self.new ≡ sampled (state_of C.model self.old) datagram delay time }
     {
         if !self.is_newest(datagram.number) {
-            return Ok(());
+            return;
         }
         let sample = round_trip(datagram, time);
-        self.rtt.update(delay, sample.rtt)?;
+        self.rtt.update(delay, sample.rtt).unwrap();
         self.rtt_filter.update_max(self.round, sample);
         self.largest_acked = Some(datagram.number);
-        Ok(())
     }
 
     /// A number in flight was acknowledged, for which the peer reported `delay`. Refusals 3 and 10.
@@ -134,10 +128,10 @@ impl<C: Controller> Path<C> {
         time: u64,
     ) -> Result<(), Refusal>
         ensures answer { result ≡ answered (landing self.old.tracker.table number time) }
-        ensures state { state_of C.model self.new ≡ acknowledged C.after_ack (state_of C.model self.old) number delay app_limited time (landing self.old.tracker.table number time) }
+        ensures state { state_of C.model self.new ≡ acknowledged C.rules (state_of C.model self.old) number delay app_limited time (landing self.old.tracker.table number time) }
     {
         let datagram = self.tracker.acknowledge(number, time)?;
-        self.take_sample(datagram, delay, time)?;
+        self.take_sample(datagram, delay, time);
         self.controller.on_ack(
             time,
             datagram.time,
@@ -151,7 +145,7 @@ impl<C: Controller> Path<C> {
     /// A batch of acks has ended. Refusal 3.
     pub fn end(&mut self, app_limited: bool, time: u64) -> Result<(), Refusal>
         ensures answer { result ≡ in_time self.old.tracker.table time }
-        ensures state { state_of C.model self.new ≡ ended C.after_end (state_of C.model self.old) app_limited time (in_time self.old.tracker.table time) }
+        ensures state { state_of C.model self.new ≡ ended C.rules (state_of C.model self.old) app_limited time (in_time self.old.tracker.table time) }
     {
         self.tracker.check_time(time)?;
         self.tracker.advance(time);
@@ -165,7 +159,7 @@ impl<C: Controller> Path<C> {
     /// A number in flight was lost. Refusals 3 and 10.
     pub fn lose(&mut self, number: u64, persistent: bool, time: u64) -> Result<(), Refusal>
         ensures answer { result ≡ answered (landing self.old.tracker.table number time) }
-        ensures state { state_of C.model self.new ≡ lost C.after_loss (state_of C.model self.old) number persistent time (landing self.old.tracker.table number time) }
+        ensures state { state_of C.model self.new ≡ lost C.rules (state_of C.model self.old) number persistent time (landing self.old.tracker.table number time) }
     {
         let datagram = self.tracker.lose(number, time)?;
         self.controller
@@ -175,7 +169,7 @@ impl<C: Controller> Path<C> {
 
     /// The MTU has changed.
     pub fn set_mtu(&mut self, mtu: Mtu)
-        ensures { state_of C.model self.new ≡ resized C.after_mtu (state_of C.model self.old) mtu }
+        ensures { state_of C.model self.new ≡ resized C.rules (state_of C.model self.old) mtu }
     {
         self.tracker.set_mtu(mtu);
         self.controller.on_mtu_update(mtu);

@@ -1,7 +1,7 @@
 // What a path answers without changing.
 ghost use Rattle.std.specs.Prelude.{◌≡◌};
 ghost use Rattle.cells.specs.Sums.{bytes_in_flight};
-ghost use Rattle.path.specs.Paths.{state_of, pace, reported};
+ghost use Rattle.path.specs.Paths.{state_of, window_of, pace, reported};
 
 use crate::path::Path;
 use crate::report::Report;
@@ -11,22 +11,21 @@ use congestion::controller::Controller;
 impl<C: Controller> Path<C> {
     /// The bytes that may be out.
     pub fn window(&self) -> u64
-        ensures { result ≡ (C.meaning (C.model self.now.controller)).window }
+        ensures { result ≡ window_of C.rules (state_of C.model self.now) }
     {
         self.controller.window()
     }
 
     /// What the pacer would answer to a grant that passed all other checks.
     pub fn pacing(&self, size: u16, time: u64) -> Option<u64>
-        ensures { result ≡ pace C.meaning (state_of C.model self.now) size time }
+        ensures { result ≡ pace C.rules (state_of C.model self.now) size time }
     {
         let mut pacer = self.pacer;
         let mtu = self.tracker.table().mtu;
         let window = self.window();
-        match pacer.delay(self.rtt.get(), size as u64, mtu, window, time) {
-            Ok(wait) => wait,
-            Err(_) => None,
-        }
+        pacer
+            .delay(self.rtt.get(), size as u64, mtu, window, time)
+            .unwrap_or(None)
     }
 
     /// The cells, and what is kept of them.

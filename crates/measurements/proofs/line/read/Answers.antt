@@ -1,6 +1,0 @@
-use Rattle.std.proofs.Common.{sym}
-use Rattle.measurements.proofs.Walks.{dark_some}
-use Rattle.measurements.proofs.line.read.Goals as goal
-
-pub bounds-line-0 : goal.bounds-line-0
-bounds-line-0 c = dark_some c.without_return-line.result.now (sym c.if-is_blank.ensures)
