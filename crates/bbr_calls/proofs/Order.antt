@@ -110,7 +110,7 @@ mode_kept s time flight =
     (λ (p : Phase). p.mode ≡ s.phase.mode) (λ _. refl) (λ _. refl))
     (λ _. refl)
 
-follows : {M : Type 0} (next : M → ℕ) (after : M → M) (s : BbrState) (m : M) (time flight : ℕ) (limited : Bool) (largest : Option ℕ) → Follows (ended next after s m time flight limited largest).growth.is_at_full_bandwidth (is_expired s time limited) s.rtt_probe.exit_probe_rtt_at time (batch_of s time flight limited largest).is_round_start s.phase.mode (ended next after s m time flight limited largest).phase.mode
+pub follows : {M : Type 0} (next : M → ℕ) (after : M → M) (s : BbrState) (m : M) (time flight : ℕ) (limited : Bool) (largest : Option ℕ) → Follows (ended next after s m time flight limited largest).growth.is_at_full_bandwidth (is_expired s time limited) s.rtt_probe.exit_probe_rtt_at time (batch_of s time flight limited largest).is_round_start s.phase.mode (ended next after s m time flight limited largest).phase.mode
 follows next after s m time flight limited largest =
     let u = updated s time flight limited largest in
     let starts = (batch_of s time flight limited largest).is_round_start in
@@ -147,7 +147,7 @@ begun_stays s time flight d starts false e =
     (λ f. absurd (both_ways (is_probe_rtt s.phase.mode) e (due_probes s.phase.mode s.rtt_probe.exit_probe_rtt_at time starts f)))
     (λ _. e)
 
-first_end : {M : Type 0} (next : M → ℕ) (after : M → M) (s : BbrState) (m : M) (time flight : ℕ) (limited : Bool) (largest : Option ℕ) → NeverProbed s → is_probe_rtt (ended next after s m time flight limited largest).phase.mode ≡ not limited
+pub first_end : {M : Type 0} (next : M → ℕ) (after : M → M) (s : BbrState) (m : M) (time flight : ℕ) (limited : Bool) (largest : Option ℕ) → NeverProbed s → is_probe_rtt (ended next after s m time flight limited largest).phase.mode ≡ not limited
 first_end next after s m time flight limited largest (h, a, b) =
     let u = updated s time flight limited largest in
     let starts = (batch_of s time flight limited largest).is_round_start in

@@ -11,7 +11,7 @@ use Rattle.cells.specs.declared.table.CellTable.{CellTable}
 use Rattle.cells.specs.declared.table.Counts.{Counts}
 use Rattle.cells.specs.declared.table.Datagram.{Datagram}
 use Rattle.cells.specs.declared.table.Label.{Label}
-use Rattle.cells.proofs.Says.{landing_says}
+use Rattle.cells.proofs.Says.{landing_says, held_next}
 use Rattle.path.specs.Paths.{PathState, window_of, pace, permitted}
 use Rattle.path.specs.Paths as paths
 use Rattle.path.specs.declared.permit.Permit.{Permit}
@@ -23,10 +23,6 @@ use Rattle.book.specs.declared.call.Request.TheVariants.{Grant as Grants, Transm
 use Rattle.book.specs.Requests.{said_permit, said_held}
 use Rattle.book.specs.Requests as requests
 use Rattle.book.specs.Settings.{Purse, Setting, has_room, stored, spent, next, Backed}
-
--- what was just held is held
-held_next : (b : CellTable) (size time : ℕ) → length b.cells ≡ 256 → IsHeld (with_held b size time) (record { number = b.next; size = size })
-held_next b size time len = grind (arith, get_or-set_same)
 
 -- an empty place backs anything
 pub empty_backed : (b : CellTable) (purse : Purse) → get_or purse 0 None ≡ None → Backed b purse

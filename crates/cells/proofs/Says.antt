@@ -1,5 +1,5 @@
 -- What an answer of a table says of its cells. Assumes nothing.
-use Rattle.std.proofs.Common.{◌≡◌, ℕ, ◌+◌, ◌^◌, ◌≤◌, Bool, true, false, cond, ◌&&◌, eqb, Some, None, Ok, Err, sym, refl, ap, ◌∙◌}
+use Rattle.std.proofs.Common.{◌≡◌, ℕ, ◌+◌, ◌^◌, ◌≤◌, Bool, true, false, cond, ◌&&◌, eqb, length, Some, None, Ok, Err, sym, refl, ap, ◌∙◌, arith, get_or-set_same}
 use Rattle.std.proofs.lemmas.Bool.{or_parts, and_parts, eqb-true, eqb-false, ltb-false, not-false}
 use Rattle.std.specs.declared.convert.Infallible.{Infallible as NoPermit}
 use Rattle.refusals.specs.declared.Refusal.{Refusal}
@@ -9,7 +9,7 @@ use Rattle.cells.specs.declared.table.Cell.TheVariants.{Free, Held, InFlight}
 use Rattle.cells.specs.declared.table.CellTable.{CellTable}
 use Rattle.cells.specs.declared.table.Datagram.{Datagram}
 use Rattle.cells.specs.declared.table.Label.{Label}
-use Rattle.cells.specs.Tables.{Checked, is_taken, cell_of, untimely, admitted, held_as, in_flight_as, landing}
+use Rattle.cells.specs.Tables.{Checked, is_taken, cell_of, untimely, admitted, with_held, held_as, IsHeld, in_flight_as, landing}
 
 -- a check that did not refuse
 pub passed : {A : Type 0} (t : Bool) (e : Refusal NoPermit) (r : Checked A) (x : A) → cond t (Err e) r ≡ Ok x → (t ≡ false) × (r ≡ Ok x)
@@ -90,3 +90,7 @@ landing_says b n time d h =
     let p = passed (untimely b.latest time) Time (in_flight_as (cell_of b n) n) d h in
     let r = in_flight_says (cell_of b n) n d p.1 in
     record { timely = p.0; was = r.0; number = r.1 }
+
+-- what was just held is held
+pub held_next : (b : CellTable) (size time : ℕ) → length b.cells ≡ 256 → IsHeld (with_held b size time) (record { number = b.next; size = size })
+held_next b size time len = grind (arith, get_or-set_same)

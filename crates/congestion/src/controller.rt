@@ -1,6 +1,6 @@
 // What every congestion controller offers, and the laws that each proves.
 ghost use Rattle.std.specs.Prelude.{◌≡◌, ℕ, ◌*◌, ◌≤◌, Bool, Option as Maybe};
-ghost use Rattle.rtt.specs.Estimates.{Estimate};
+ghost use Rattle.rtt.specs.Estimates.{Estimate, estimate_of};
 ghost use Rattle.congestion.specs.Meaning.{told_sent, told_acked, told_end, told_lost, told_mtu};
 ghost use Rattle.congestion.specs.Rules.{Rules};
 
@@ -34,7 +34,7 @@ pub trait Controller {
     /// `app_limited` says whether the connection was blocked on the application's data before these
     /// acknowledgements came.
     fn on_ack(&mut self, time: u64, sent: u64, bytes: u64, app_limited: bool, rtt: &RttEstimator)
-        ensures { model self.new ≡ rules.acks (model self.old) time sent bytes app_limited rtt.now };
+        ensures { model self.new ≡ rules.acks (model self.old) time sent bytes app_limited (estimate_of rtt.now) };
 
     /// Packets are acknowledged in batches, all with the same `time`: one of those batches has ended.
     // There is no body here for those who do nothing then: none would keep the rules of every controller.

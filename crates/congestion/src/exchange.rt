@@ -1,6 +1,7 @@
 // Calls above any controller, proved once from the trait's laws. They take times and sizes one by one, as the trait's calls
 // do. `exchange` and `loss` differ by the second call, whose arguments and law are its own.
 ghost use Rattle.std.specs.Prelude.{◌≡◌, ◌+◌, ◌*◌, ◌≤◌, false};
+ghost use Rattle.rtt.specs.Estimates.{estimate_of};
 ghost use Rattle.congestion.specs.Growth.{Delivered, Wasted};
 ghost use Rattle.congestion.specs.Meaning.{told_mtu};
 
@@ -17,7 +18,7 @@ pub fn exchange<C: Controller>(
     number: u64,
     rtt: &RttEstimator,
 ) -> u64
-    ensures state { C.model controller.new ≡ C.rules.acks (C.rules.sends (C.model controller.old) sent bytes number) time sent bytes false rtt.now }
+    ensures state { C.model controller.new ≡ C.rules.acks (C.rules.sends (C.model controller.old) sent bytes number) time sent bytes false (estimate_of rtt.now) }
     ensures totals { Delivered bytes (C.rules.meaning (C.model controller.old)) (C.rules.meaning (C.model controller.new)) }
     ensures window { result ≡ (C.rules.meaning (C.model controller.new)).window }
     ensures floor { C.FLOOR * (C.rules.meaning (C.model controller.old)).mtu ≤ result }

@@ -1,3 +1,2 @@
 pub mod RttOrder
-pub mod Choices
 pub mod Filter

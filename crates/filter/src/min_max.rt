@@ -1,12 +1,9 @@
 // The greatest of a stream of values over the last rounds, with a second and a third choice from later in the window
 // (Kathleen Nichols' algorithm).
 ghost use Rattle.std.specs.Prelude.{◌≡◌, true};
-ghost use Rattle.filter.specs.Choices.{Choices, Falling};
-ghost use Rattle.filter.specs.Filter.{fresh, emptied, filled, placed, aged, updated, is_replaced};
+ghost use Rattle.filter.specs.Filter.{fresh, emptied, filled, placed, aged, updated, is_replaced, Falling};
 
 use crate::order::TotalOrder;
-use std::alloc::AllocError;
-use std::marker::Model;
 
 #[derive(Clone, Copy)]
 pub struct MinMaxSample<T> {
@@ -15,37 +12,14 @@ pub struct MinMaxSample<T> {
     pub value: T,
 }
 
-pub struct MinMax<T: TotalOrder> {
+#[derive(Clone, Copy)]
+pub struct MinMax<T> {
     // How many rounds the filter looks back.
     window: u64,
     // Three names, since of an array each step would begin by giving its elements these names.
     first: MinMaxSample<T>,
     second: MinMaxSample<T>,
     third: MinMaxSample<T>,
-}
-
-// No choice is greater than the one before.
-impl<T: TotalOrder> Model for MinMax<T> {
-    ghost Value = { Choices T };
-
-    ghost view = { λ m. record { window = m.window; first = m.first; second = m.second; third = m.third } };
-
-    ghost invariant = { λ m. Falling T.at_most (record { window = m.window; first = m.first; second = m.second; third = m.third }) };
-
-    ghost inverse = { λ c. record { window = c.window; first = c.first; second = c.second; third = c.third } };
-}
-
-impl<T: TotalOrder + Copy> Copy for MinMax<T> {}
-
-// Not derived, since a clone of each value need not keep the order.
-impl<T: TotalOrder + Copy> Clone for MinMax<T> {
-    ghost is_clone = { λ x y. y ≡ x };
-
-    ghost is_infallible = { λ _. Unit {0} };
-
-    fn clone(&self) -> Result<MinMax<T>, AllocError> {
-        Ok(*self)
-    }
 }
 
 // A filter that has seen nothing.
@@ -62,7 +36,8 @@ const WINDOW: u64 = 10;
 impl<T: TotalOrder + Copy> MinMax<T> {
     // A filter over ten rounds that has seen nothing.
     pub fn new() -> MinMax<T>
-        ensures { result ≡ fresh T.bottom }
+        ensures value { result ≡ fresh T.bottom }
+        ensures falls { Falling T.at_most result }
     {
         let sample = MinMaxSample {
             time: 0,
@@ -92,8 +67,7 @@ impl<T: TotalOrder + Copy> MinMax<T> {
 
     // The three choices, the best first.
     pub fn samples(&self) -> (MinMaxSample<T>, MinMaxSample<T>, MinMaxSample<T>)
-        ensures value { result ≡ (self.now.first, self.now.second, self.now.third) }
-        ensures falls { Falling T.at_most self.now }
+        ensures { result ≡ (self.now.first, self.now.second, self.now.third) }
     {
         (self.first, self.second, self.third)
     }
@@ -108,7 +82,8 @@ impl<T: TotalOrder + Copy> MinMax<T> {
 
     // Forgets every sample.
     pub fn reset(&mut self)
-        ensures { self.new ≡ emptied T.bottom self.old }
+        ensures state { self.new ≡ emptied T.bottom self.old }
+        ensures falls { Falling T.at_most self.new }
     {
         self.fill(MinMaxSample {
             time: 0,
@@ -128,9 +103,7 @@ impl<T: TotalOrder + Copy> MinMax<T> {
     }
 
     fn place(&mut self, sample: MinMaxSample<T>)
-        requires { T.at_most sample.value self.old.first.value ≡ true }
-        ensures step { self.new ≡ placed T.at_most self.old sample }
-        ensures above { T.at_most sample.value self.new.third.value ≡ true }
+        ensures { self.new ≡ placed T.at_most self.old sample }
     {
         if self.second.value.at_most(&sample.value) {
             self.second = sample;
@@ -142,9 +115,7 @@ impl<T: TotalOrder + Copy> MinMax<T> {
 
     // As rounds go by, the later choices move up.
     fn subwin_update(&mut self, sample: MinMaxSample<T>)
-        requires { T.at_most sample.value self.old.third.value ≡ true }
-        ensures step { self.new ≡ aged self.old sample }
-        ensures covers { T.at_most sample.value self.new.first.value ≡ true }
+        ensures { self.new ≡ aged self.old sample }
     {
         let dt = sample.time.saturating_sub(self.first.time);
         if dt > self.window {
@@ -167,7 +138,8 @@ impl<T: TotalOrder + Copy> MinMax<T> {
     // Takes a measurement of a round.
     pub fn update_max(&mut self, current_round: u64, measurement: T)
         ensures step { self.new ≡ updated T.at_most T.bottom self.old current_round measurement }
-        ensures covers { T.at_most measurement self.new.first.value ≡ true }
+        ensures falls { Falling T.at_most self.old → Falling T.at_most self.new }
+        ensures covers { Falling T.at_most self.old → T.at_most measurement self.new.first.value ≡ true }
     {
         let sample = MinMaxSample {
             time: current_round,

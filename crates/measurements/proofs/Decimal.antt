@@ -1,5 +1,7 @@
 -- The value of a text of digits, as far as it fits. Assumes nothing.
-use Rattle.std.proofs.Common.{◌≡◌, ℕ, ◌+◌, ◌-◌, ◌*◌, ◌^◌, ◌<◌, ◌≤◌, List, [], ◌∷◌, length, get_or, drop, Ok, Err, sym, ap, ◌∙◌, arith}
+use Rattle.std.proofs.Common.{◌≡◌, ℕ, ◌+◌, ◌-◌, ◌*◌, ◌^◌, ◌<◌, ◌≤◌, Bool, true, false, ◌&&◌, List, [], ◌∷◌, length, get_or, drop, Ok, Err, sym, ap, ◌∙◌, arith}
+use Rattle.std.specs.Char.{is_ascii_digit}
+use Rattle.std.specs.List.{list_all}
 use Rattle.std.proofs.lemmas.Grind.{common_steps}
 use Rattle.std.proofs.lemmas.List.{at_drop_more, at_drop_all}
 use Rattle.measurements.specs.Numbers.{value_after, fitted}
@@ -12,6 +14,13 @@ value_after_grows n (c ∷ cs) = let h = value_after_grows (n * 10 + (c - 48)) c
 
 too_large : (n : ℕ) (cs : List ℕ) (why : NumberFault) → fitted n ≡ Err why → fitted (value_after n cs) ≡ Err why
 too_large n cs why h = let more = value_after_grows n cs in grind (arith, common_steps)
+
+module _ (bs : List ℕ) (i : ℕ) where
+  pub not_digit : i < length bs → is_ascii_digit (get_or bs i 0) ≡ false → list_all is_ascii_digit (drop i bs) ≡ false
+  not_digit lt other = at_drop_more (list_all is_ascii_digit) bs i 0 lt ∙ ap (λ (b : Bool). b && list_all is_ascii_digit (drop (i + 1) bs)) other
+
+  pub one_digit : i < length bs → is_ascii_digit (get_or bs i 0) ≡ true → list_all is_ascii_digit (drop i bs) ≡ list_all is_ascii_digit (drop (i + 1) bs)
+  one_digit lt same = at_drop_more (list_all is_ascii_digit) bs i 0 lt ∙ ap (λ (b : Bool). b && list_all is_ascii_digit (drop (i + 1) bs)) same
 
 module _ (bs : List ℕ) (i value : ℕ) where
   pub digit_fails : (why : NumberFault) → i < length bs → fitted (value * 10 + (get_or bs i 0 - 48)) ≡ Err why → fitted (value_after value (drop i bs)) ≡ Err why

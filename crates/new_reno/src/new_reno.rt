@@ -58,6 +58,7 @@ impl NewReno {
 // The trait has these as calls of each controller; CUBIC has the like of those that are one line. Contracts read the controller by
 // `reno_model`, since the law of the window speaks of the controller itself and an `impl Model` would hide it.
 impl Controller for NewReno {
+    ghost use Rattle.rtt.specs.Estimates.{estimate_of};
     ghost use Rattle.new_reno.specs.Steps.{RenoModel, reno_model, reno_rules, reno_ack, CountsBytes};
     ghost use Rattle.std.proofs.Common.{rules};
 
@@ -92,7 +93,7 @@ impl Controller for NewReno {
     }
 
     fn on_ack(&mut self, time: u64, sent: u64, bytes: u64, app_limited: bool, rtt: &RttEstimator)
-        ensures step { reno_model self.new ≡ reno_ack (reno_model self.old) time sent bytes app_limited rtt.now }
+        ensures step { reno_model self.new ≡ reno_ack (reno_model self.old) time sent bytes app_limited (estimate_of rtt.now) }
         ensures counts { CountsBytes (reno_model self.old) sent bytes app_limited (reno_model self.new) }
     {
         self.totals.add_acked(bytes);

@@ -130,7 +130,7 @@ in_units f m (negsuc i) h =
     let back : low f - suc i + suc i ≡ low f = omega arith in
     (low f - suc i, omega (arith, ap (λ (x : ℕ). m * 2 ^ x) back, ap (λ (x : ℕ). m * x) (pow-add 2 (low f - suc i) (suc i))))
 
-bits_read : (f : Format) (x : Float) → fits f x ≡ true → le (two_to 0) x ≡ true → le (two_to 64) x ≡ false → Reads (prec f) (low f) (to_bits f x) (to_unsigned 64 x)
+pub bits_read : (f : Format) (x : Float) → fits f x ≡ true → le (two_to 0) x ≡ true → le (two_to 64) x ≡ false → Reads (prec f) (low f) (to_bits f x) (to_unsigned 64 x)
 unfolding le lt eq to_bits to_unsigned
 bits_read f nan h one top = absurd (both_ways false refl one)
 bits_read f (inf true) h one top = absurd (both_ways false refl one)

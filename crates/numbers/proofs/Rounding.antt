@@ -26,7 +26,7 @@ pub size_gt : (n j : ℕ) → 2 ^ j ≤ n → j < size n
 size_gt n j from = elim (cases_lt j (size n)) [ inl l ↦ l | inr g ↦ absurd (lt_irrefl n (lt_of_lt_of_le (size-lt n) (le_trans (pow_mono g) from))) ]
 
 -- a number from 2^z on and below 2^(z + 1) has z + 1 digits
-size_is : (n z : ℕ) → 2 ^ z ≤ n → n < 2 ^ suc z → size n ≡ suc z
+pub size_is : (n z : ℕ) → 2 ^ z ≤ n → n < 2 ^ suc z → size n ≡ suc z
 size_is n z from below = omega (arith, size_gt n z from, size-le n (suc z) below)
 
 -- from one fraction to another of the same size

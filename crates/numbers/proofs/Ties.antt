@@ -164,7 +164,7 @@ even_last f x q j v a b c =
     ]
 
 -- a whole number of 64 bits and the float that it is rounded to
-nearest_float : (f : Format) (n : ℕ) → n < 2 ^ 64 → Nearest f n (of_int f (pos n))
+pub nearest_float : (f : Format) (n : ℕ) → n < 2 ^ 64 → Nearest f n (of_int f (pos n))
 unfolding of_int
 nearest_float f n short =
     elim (cases_lt n (2 ^ prec f)) [

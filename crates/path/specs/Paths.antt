@@ -18,12 +18,12 @@ use Rattle.values.specs.Limits.{clamped}
 use Rattle.values.specs.Saturating.{sum}
 use Rattle.values.specs.declared.mtu.Mtu.{Mtu}
 use Rattle.values.specs.declared.opening.Opening.{Opening}
-use Rattle.rtt.specs.Estimates.{Estimate, best}
+use Rattle.rtt.specs.Estimates.{Estimate, estimate_of, best}
 use Rattle.rtt.specs.Estimates as estimates
 use Rattle.filter.specs.Filter.{fresh}
 use Rattle.filter.specs.Filter as filter
 use Rattle.filter.specs.RttOrder.{no_faster, slowest}
-use Rattle.filter.specs.Choices.{Choices}
+use Rattle.filter.specs.declared.min_max.MinMax.{MinMax}
 use Rattle.filter.specs.declared.rtt_sample.RttSample.{RttSample}
 use Rattle.pacing.specs.Pacing.{told, delayed, sent}
 use Rattle.pacing.specs.Pacing as pacing
@@ -43,7 +43,7 @@ pub record PathState (M : Type 0) : Type 0 where
   pub table : CellTable
   pub controller : M
   pub estimate : Estimate
-  pub fastest : Choices RttSample
+  pub fastest : MinMax RttSample
   pub pacer : Bucket
   pub largest : Option ℕ
   pub round : ℕ
@@ -53,7 +53,7 @@ state_of model p =
     record {
       table = p.tracker.table;
       controller = model p.controller;
-      estimate = p.rtt;
+      estimate = estimate_of p.rtt;
       fastest = p.rtt_filter;
       pacer = p.pacer;
       largest = p.largest_acked;

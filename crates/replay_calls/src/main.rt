@@ -39,15 +39,20 @@ fn reply<S: Replayed>(rt: &impl Print, subject: &S, answer: Option<OrNone>) -> a
     Ok(())
 }
 
+// What the call on a line makes. The line goes before the next one is read, however long it is.
+fn made<S: FromCall>(line: String) -> anyhow::Result<S> {
+    S::from_call(&Call::from(line.as_str()))
+}
+
 // Replays a sequence of calls on the subject that the first one makes, and answers the line that begins the next sequence.
 fn replay_on<S: Replayed>(
     rt: &impl Print,
     recording: &mut Recording,
-    first: &Call,
+    first: String,
 ) -> anyhow::Result<Option<String>>
     ensures { ReadsCall recording.old recording.new result }
 {
-    let mut subject = S::from_call(first)?;
+    let mut subject = made::<S>(first)?;
     reply(rt, &subject, None)?;
     while let Some(line) = recording.next_call(rt)? {
         let call = Call::from(line.as_str());
@@ -64,7 +69,7 @@ fn replay_on<S: Replayed>(
 fn replay_sequence(
     rt: &impl Print,
     recording: &mut Recording,
-    first: &Call,
+    first: String,
 ) -> anyhow::Result<Option<String>>
     ensures { ReadsCall recording.old recording.new result }
 {
@@ -75,7 +80,7 @@ fn replay_sequence(
         Module::Pacer => replay_on::<Pacer>(rt, recording, first),
         Module::NewReno => replay_on::<Controlled<NewReno>>(rt, recording, first),
         Module::Cubic => replay_on::<Controlled<Cubic>>(rt, recording, first),
-        Module::Bbr => match first.word(3)? {
+        Module::Bbr => match Call::from(first.as_str()).word(3)? {
             "recorded" => replay_on::<Controlled<Bbr<Recorded>>>(rt, recording, first),
             "xorshift" => replay_on::<Controlled<Bbr<Xorshift>>>(rt, recording, first),
             _ => Err(anyhow!("no source of draws")),
@@ -87,7 +92,7 @@ fn replay(rt: &impl Print, mut recording: Recording) -> anyhow::Result<()> {
     let Some(mut first) = recording.next_call(rt)? else {
         return Ok(());
     };
-    while let Some(next) = replay_sequence(rt, &mut recording, &Call::from(first.as_str()))? {
+    while let Some(next) = replay_sequence(rt, &mut recording, first)? {
         first = next;
     }
     Ok(())

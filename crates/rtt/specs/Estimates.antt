@@ -19,12 +19,17 @@ use Rattle.refusals.specs.declared.Layer.TheVariants.{Estimator}
 use Rattle.std.specs.declared.convert.Infallible.{Infallible as NoPermit}
 use Rattle.refusals.specs.declared.Refusal.{Refusal}
 use Rattle.refusals.specs.declared.Refusal.TheVariants.{OutsideLimit}
+use Rattle.rtt.specs.declared.estimator.RttEstimator.{RttEstimator}
 
 pub record Estimate : Type 0 where
   pub latest : ℕ
   pub smoothed : Option ℕ
   pub variation : ℕ
   pub minimum : ℕ
+
+-- what an estimator holds
+abbrev pub estimate_of : RttEstimator → Estimate
+estimate_of e = record { latest = e.latest; smoothed = e.smoothed; variation = e.var; minimum = e.min }
 
 -- What is so of every estimate: the latest sample, the smoothed time (or the latest, before there is one) and the least sample are
 -- round-trip times, and the variation is at most the longest.

@@ -5,10 +5,9 @@ use Rattle.std.specs.Prelude.{ℕ, List, [], ◌∷◌, ◌++◌, Some, None, Ok
 use Rattle.refusals.specs.Refusals.{refusal_text}
 use Rattle.measurements.specs.Faults.{line_fault_text}
 use Rattle.measurements.specs.Lines.{lines_in, line_in}
-use Rattle.rtt_report.specs.Sessions.{started, outcome, next}
+use Rattle.rtt_report.specs.Sessions.{Progress, started, outcome, next}
 use Rattle.rtt_report.specs.declared.session.StepError.{StepError}
 use Rattle.rtt_report.specs.declared.session.StepError.TheVariants.{Refused, Unreadable}
-use Rattle.rtt_report.specs.declared.session.Session.{Session}
 use Rattle.rtt_report.specs.declared.session.Taken.{Taken}
 
 abbrev pub taken_text : Taken → List ℕ
@@ -25,13 +24,13 @@ row (Ok None) = []
 row (Ok (Some t)) = taken_text t ++ codes "\n"
 row (Err why) = error_text why ++ codes "\n"
 
-abbrev pub summary_text : Session → List ℕ
-summary_text s =
-    codes "taken " ++ (decimal s.taken ++ (codes " refused " ++ (decimal s.refused ++ (codes " unreadable " ++ (decimal s.unreadable ++ codes "\n")))))
+abbrev pub summary_text : Progress → List ℕ
+summary_text p =
+    codes "taken " ++ (decimal p.taken ++ (codes " refused " ++ (decimal p.refused ++ (codes " unreadable " ++ (decimal p.unreadable ++ codes "\n")))))
 
-abbrev pub report_from : Session → List (List ℕ) → List ℕ
-report_from s [] = summary_text s
-report_from s (line ∷ lines) = row (outcome s (line_in line)) ++ report_from (next s (line_in line)) lines
+abbrev pub report_from : Progress → List (List ℕ) → List ℕ
+report_from p [] = summary_text p
+report_from p (line ∷ lines) = row (outcome p (line_in line)) ++ report_from (next p (line_in line)) lines
 
 -- the report of an input, the initial round-trip time given
 abbrev pub report_of : ℕ → List ℕ → List ℕ

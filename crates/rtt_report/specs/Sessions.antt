@@ -6,7 +6,7 @@ use Rattle.std.specs.Prelude.{ℕ, Bool, cond, ◌&&◌, Some, None, Ok, Err, Op
 use Rattle.values.specs.Saturating.{sum}
 use Rattle.refusals.specs.declared.Layer.TheVariants.{Estimator}
 use Rattle.refusals.specs.declared.Refusal.TheVariants.{OutsideLimit}
-use Rattle.rtt.specs.Estimates.{Estimate, opened, updated, best, probe_timeout}
+use Rattle.rtt.specs.Estimates.{Estimate, estimate_of, opened, updated, best, probe_timeout}
 use Rattle.measurements.specs.declared.line.LineFault.{LineFault}
 use Rattle.measurements.specs.declared.line.Measurement.{Measurement}
 use Rattle.rtt_report.specs.declared.session.StepError.{StepError}
@@ -14,14 +14,25 @@ use Rattle.rtt_report.specs.declared.session.StepError.TheVariants.{Refused, Unr
 use Rattle.rtt_report.specs.declared.session.Session.{Session}
 use Rattle.rtt_report.specs.declared.session.Taken.{Taken}
 
-abbrev pub started : ℕ → Session
-started initial = record { estimator = opened initial; taken = 0; refused = 0; unreadable = 0; skipped = 0 }
+pub record Progress : Type 0 where
+  pub estimate : Estimate
+  pub taken : ℕ
+  pub refused : ℕ
+  pub unreadable : ℕ
+  pub skipped : ℕ
 
-abbrev pub place_in : Session → ℕ
-place_in s = sum s.taken s.refused
+abbrev pub progress_of : Session → Progress
+progress_of s =
+    record { estimate = estimate_of s.estimator; taken = s.taken; refused = s.refused; unreadable = s.unreadable; skipped = s.skipped }
 
-abbrev pub line_number : Session → ℕ
-line_number s = sum (sum (sum (place_in s) s.unreadable) s.skipped) 1
+abbrev pub started : ℕ → Progress
+started initial = record { estimate = opened initial; taken = 0; refused = 0; unreadable = 0; skipped = 0 }
+
+abbrev pub place_in : Progress → ℕ
+place_in p = sum p.taken p.refused
+
+abbrev pub line_number : Progress → ℕ
+line_number p = sum (sum (sum (place_in p) p.unreadable) p.skipped) 1
 
 -- within the limits of a round-trip time
 abbrev pub is_taken : ℕ → Bool
@@ -31,27 +42,27 @@ abbrev pub told : ℕ → Estimate → Taken
 told place e =
     record { place = place; smoothed = best e; variation = e.variation; minimum = e.minimum; pto_base = probe_timeout e }
 
-abbrev pub sampled : Session → Measurement → Result Taken StepError
-sampled s m =
-    cond (is_taken m.rtt) (Ok (told (place_in s) (updated s.estimator m.ack_delay m.rtt)))
-    (Err (Refused (place_in s) (OutsideLimit Estimator)))
+abbrev pub sampled : Progress → Measurement → Result Taken StepError
+sampled p m =
+    cond (is_taken m.rtt) (Ok (told (place_in p) (updated p.estimate m.ack_delay m.rtt)))
+    (Err (Refused (place_in p) (OutsideLimit Estimator)))
 
-abbrev pub after_sample : Session → Measurement → Session
-after_sample s m =
-    cond (is_taken m.rtt) (record s { estimator = updated s.estimator m.ack_delay m.rtt; taken = sum s.taken 1 })
-    (record s { refused = sum s.refused 1 })
+abbrev pub after_sample : Progress → Measurement → Progress
+after_sample p m =
+    cond (is_taken m.rtt) (record p { estimate = updated p.estimate m.ack_delay m.rtt; taken = sum p.taken 1 })
+    (record p { refused = sum p.refused 1 })
 
 -- a sample that is taken is what the line came to
 abbrev pub given : Result Taken StepError → Result (Option Taken) StepError
 given (Ok t) = Ok (Some t)
 given (Err why) = Err why
 
-abbrev pub outcome : Session → Result (Option Measurement) LineFault → Result (Option Taken) StepError
-outcome s (Ok None) = Ok None
-outcome s (Ok (Some m)) = given (sampled s m)
-outcome s (Err why) = Err (Unreadable (line_number s) why)
+abbrev pub outcome : Progress → Result (Option Measurement) LineFault → Result (Option Taken) StepError
+outcome p (Ok None) = Ok None
+outcome p (Ok (Some m)) = given (sampled p m)
+outcome p (Err why) = Err (Unreadable (line_number p) why)
 
-abbrev pub next : Session → Result (Option Measurement) LineFault → Session
-next s (Ok None) = record s { skipped = sum s.skipped 1 }
-next s (Ok (Some m)) = after_sample s m
-next s (Err why) = record s { unreadable = sum s.unreadable 1 }
+abbrev pub next : Progress → Result (Option Measurement) LineFault → Progress
+next p (Ok None) = record p { skipped = sum p.skipped 1 }
+next p (Ok (Some m)) = after_sample p m
+next p (Err why) = record p { unreadable = sum p.unreadable 1 }

@@ -38,10 +38,10 @@ impl Session {
     ghost use Rattle.std.specs.Prelude.{◌≡◌, IfOk, string_bytes};
     ghost use Rattle.measurements.specs.Lines.{line_in};
     ghost use Rattle.rtt_report.specs.Reports.{summary_text};
-    ghost use Rattle.rtt_report.specs.Sessions.{started, place_in, line_number, sampled, after_sample, outcome, next};
+    ghost use Rattle.rtt_report.specs.Sessions.{progress_of, started, place_in, line_number, sampled, after_sample, outcome, next};
 
     pub fn new(initial_rtt: Rtt) -> Session
-        ensures { result ≡ started initial_rtt.nanos }
+        ensures { progress_of result ≡ started initial_rtt.nanos }
     {
         Session {
             estimator: RttEstimator::new(initial_rtt),
@@ -54,7 +54,7 @@ impl Session {
 
     // The counts, as the report's last line.
     pub fn summary(&self, heap: Global) -> Result<String, AllocError>
-        ensures { IfOk result (λ s. string_bytes s ≡ summary_text self.now) }
+        ensures { IfOk result (λ s. string_bytes s ≡ summary_text (progress_of self.now)) }
     {
         let taken = self.taken;
         let refused = self.refused;
@@ -64,14 +64,14 @@ impl Session {
 
     // The place of the next sample.
     fn place(&self) -> u64
-        ensures { result ≡ place_in self.now }
+        ensures { result ≡ place_in (progress_of self.now) }
     {
         self.taken.saturating_add(self.refused)
     }
 
     // The number of the next line.
     fn line(&self) -> u64
-        ensures { result ≡ line_number self.now }
+        ensures { result ≡ line_number (progress_of self.now) }
     {
         self.place()
             .saturating_add(self.unreadable)
@@ -80,8 +80,8 @@ impl Session {
     }
 
     fn sample(&mut self, measurement: Measurement) -> Result<Taken, StepError>
-        ensures value { result ≡ sampled self.old measurement }
-        ensures after { self.new ≡ after_sample self.old measurement }
+        ensures value { result ≡ sampled (progress_of self.old) measurement }
+        ensures after { progress_of self.new ≡ after_sample (progress_of self.old) measurement }
     {
         let place = self.place();
         let answer = self
@@ -103,8 +103,8 @@ impl Session {
 
     // Reads a line, its newline taken off. A blank line and a comment come to nothing.
     pub fn step(&mut self, line: &[u8]) -> Result<Option<Taken>, StepError>
-        ensures value { result ≡ outcome self.old (line_in line.now) }
-        ensures after { self.new ≡ next self.old (line_in line.now) }
+        ensures value { result ≡ outcome (progress_of self.old) (line_in line.now) }
+        ensures after { progress_of self.new ≡ next (progress_of self.old) (line_in line.now) }
     {
         match read(line) {
             Ok(None) => {

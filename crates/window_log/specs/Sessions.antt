@@ -4,7 +4,7 @@
 -- are numbered from 0 in the log's order; what was sent is in flight until it is acknowledged or lost.
 use Rattle.std.specs.Prelude.{ℕ, cond, List, Some, None, Ok, Err, Option, Result}
 use Rattle.rtt.specs.Estimates as estimates
-use Rattle.rtt.specs.Estimates.{Estimate}
+use Rattle.rtt.specs.Estimates.{Estimate, estimate_of}
 use Rattle.std.specs.declared.convert.Infallible.{Infallible as NoPermit}
 use Rattle.refusals.specs.declared.Refusal.{Refusal}
 use Rattle.congestion.specs.Rules.{Rules}
@@ -27,7 +27,7 @@ pub record Progress (M : Type 0) : Type 0 where
 
 abbrev pub progress_of : {C M : Type 0} → (C → M) → Session C → Progress M
 progress_of model s =
-    record { controller = model s.controller; estimate = s.estimator; packets = s.packets; in_flight = s.in_flight }
+    record { controller = model s.controller; estimate = estimate_of s.estimator; packets = s.packets; in_flight = s.in_flight }
 
 abbrev pub started : {M : Type 0} → M → ℕ → Progress M
 started c initial = record { controller = c; estimate = estimates.opened initial; packets = 0; in_flight = 0 }

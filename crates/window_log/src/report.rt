@@ -5,7 +5,7 @@ ghost use Rattle.window_log.specs.Reports.{row, report_of};
 use crate::session::{Session, Standing, StepError};
 use congestion::controller::Controller;
 use measurements::lines::Lines;
-use measurements::parts::without_return;
+use measurements::parts::{is_skipped, without_return};
 use std::alloc::{AllocError, Global};
 use values::rtt::Rtt;
 
@@ -40,6 +40,10 @@ pub fn replay<C: Controller + Drop>(
     let mut report = Vec::new(heap);
     for line in Lines::new(log) {
         let line = without_return(line);
+        // `step` says of it that it comes to nothing, and it then costs an outcome and a row.
+        if is_skipped(line) {
+            continue;
+        }
         let outcome = session.step(line);
         put_row(heap, &mut report, line, outcome)?;
     }

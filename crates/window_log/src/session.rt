@@ -1,5 +1,6 @@
 // Replays a log, line by line.
 ghost use Rattle.std.specs.Prelude.{◌≡◌};
+ghost use Rattle.rtt.specs.Estimates.{estimate_of};
 ghost use Rattle.window_log.specs.Replays.{sampled, packets_after, flight_after};
 
 use crate::event::read::event;
@@ -63,7 +64,7 @@ impl From<Fault> for StepError {
 
 // An acknowledgement gives a sample of the round-trip time.
 fn sample(estimator: &mut RttEstimator, event: Event)
-    ensures { estimator.new ≡ sampled estimator.old event }
+    ensures { estimate_of estimator.new ≡ sampled (estimate_of estimator.old) event }
 {
     if let Event::Acked(past) = event {
         let rtt = Rtt::clamped(past.time.saturating_sub(past.sent));

@@ -1,5 +1,6 @@
 // Tells any controller what a line of a log says.
 ghost use Rattle.std.specs.Prelude.{◌≡◌};
+ghost use Rattle.rtt.specs.Estimates.{estimate_of};
 ghost use Rattle.values.specs.Limits.{InMtu};
 ghost use Rattle.values.specs.Makers.{Made};
 ghost use Rattle.window_log.specs.Replays.{told, answer};
@@ -27,7 +28,7 @@ pub fn tell<C: Controller>(
     rtt: &RttEstimator,
 ) -> Result<(), Refusal>
     ensures answer { result ≡ answer event }
-    ensures state { C.model controller.new ≡ told C.rules (C.model controller.old) event number in_flight rtt.now }
+    ensures state { C.model controller.new ≡ told C.rules (C.model controller.old) event number in_flight (estimate_of rtt.now) }
 {
     match event {
         Event::Sent { bytes, time } => controller.on_sent(time, bytes, number),
